@@ -9,17 +9,17 @@ use Rattle.std.proofs.lemmas.Bool.Decides.{nat_tests}
 use Rattle.std.proofs.lemmas.List.{append-nil, reverse-append}
 use Rattle.indexmap.specs.IndexMap.{insert_entry}
 use Rattle.pqformat.specs.Steps.{◌>>=◌}
-use Rattle.logical.specs.declared.logical.Logical.{Logical}
-use Rattle.logical.specs.declared.logical.Logical.TheVariants as logical
+use Rattle.pgoutput.specs.declared.logical.Logical.{Logical}
+use Rattle.pgoutput.specs.declared.logical.Logical.TheVariants as logical
 use Rattle.pgoutput.specs.declared.begin.Begin.{Begin}
 use Rattle.pgoutput.specs.declared.relation.Relation.{Relation}
 use Rattle.pgoutput.specs.declared.tuple.Cell.{Cell}
 use Rattle.pgoutput.specs.declared.old_tuple.OldTuple.{OldTuple}
 use Rattle.pgoutput.specs.OldTuple.{cells_of}
-use Rattle.stream.specs.declared.word.Word.{Word}
-use Rattle.stream.specs.declared.published.Published.{Published}
-use Rattle.stream.specs.declared.published.PublishedChange.{PublishedChange}
-use Rattle.stream.specs.Items.{Item, KeepaliveItem, Block, words_by, note_words, xlogdata_word, tables_of, is_relation_sent, relations_due, relations_sent_by, relations_sent_by_all, relation_words, change_words, changes_words, commit_message, item_words, relations_sent_after, FitsRelationOf, IsOldOf, IsOfChange, FitsChange, FitsNote, FitChanges, FitsItem}
+use Rattle.pgoutput.specs.declared.word.Word.{Word}
+use Rattle.pgoutput.specs.declared.published.Published.{Published}
+use Rattle.pgoutput.specs.declared.published.PublishedChange.{PublishedChange}
+use Rattle.pgoutput.specs.Items.{Item, KeepaliveItem, Block, words_by, note_words, xlogdata_word, tables_of, is_relation_sent, relations_due, relations_sent_by, relations_sent_by_all, relation_words, change_words, changes_words, commit_message, item_words, relations_sent_after, FitsRelationOf, IsOldOf, IsOfChange, FitsChange, FitsNote, FitChanges, FitsItem}
 use Rattle.client.specs.declared.fault.ClientFault.{ClientFault}
 use Rattle.client.specs.declared.fault.ClientFault.TheVariants.{Order, UnknownRelation}
 use Rattle.client.specs.Subscriber.{Subscriber, HalfTransaction, tables_with_relation, columns_of, fits, fits_old, are_told, judgement_of_change, with_change, note_of, after_logical_message, after_word, after_words}

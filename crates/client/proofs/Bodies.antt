@@ -7,13 +7,13 @@ use Rattle.copyboth.specs.declared.fault.CopyFault.{CopyFault}
 use Rattle.copyboth.specs.XLogData.{XLogDataBody}
 use Rattle.copyboth.specs.Server.{SpellsServer, SpellsXLogData}
 use Rattle.copyboth.proofs.Bodies.{server_again}
-use Rattle.logical.specs.declared.logical.Logical.{Logical}
-use Rattle.logical.specs.Logical.{SpellsLogical}
-use Rattle.logical.proofs.Whole.{two_spellings}
+use Rattle.pgoutput.specs.declared.logical.Logical.{Logical}
+use Rattle.pgoutput.specs.Logical.{SpellsLogical}
+use Rattle.pgoutput.proofs.Whole.{two_spellings}
 use Rattle.pqformat.proofs.Codec.{ok_is}
-use Rattle.stream.specs.declared.word.Word.{Word}
-use Rattle.stream.specs.declared.word.Word.TheVariants as words
-use Rattle.stream.specs.declared.word.XLogData.{XLogData}
+use Rattle.pgoutput.specs.declared.word.Word.{Word}
+use Rattle.pgoutput.specs.declared.word.Word.TheVariants as words
+use Rattle.pgoutput.specs.declared.word.XLogData.{XLogData}
 use Rattle.client.specs.declared.fault.ClientFault.{ClientFault}
 use Rattle.client.specs.declared.fault.ClientFault.TheVariants as faults
 use Rattle.client.specs.Words.{Says, ReadsBody, ReadsMessage}

@@ -14,10 +14,10 @@ use Rattle.frames.proofs.Frames.{raw_again, raw_waits, frame_begins, length-fram
 use Rattle.frames.proofs.Bodies.{back_bodies}
 use Rattle.copyboth.specs.declared.keepalive.TheConstants.{ASKS}
 use Rattle.copyboth.specs.Keepalive.{ask_byte}
-use Rattle.logical.specs.Logical.{spell_logical}
-use Rattle.stream.specs.declared.word.Word.{Word}
-use Rattle.stream.specs.declared.word.Word.TheVariants as words
-use Rattle.stream.specs.Words.{word_body, word_bytes, frames_of, FitsWord}
+use Rattle.pgoutput.specs.Logical.{spell_logical}
+use Rattle.pgoutput.specs.declared.word.Word.{Word}
+use Rattle.pgoutput.specs.declared.word.Word.TheVariants as words
+use Rattle.pgoutput.specs.Words.{word_body, word_bytes, frames_of, FitsWord}
 use Rattle.client.specs.Words.{Says, SpellsWord, AreSpelled, Waits, TakesMemory}
 use Rattle.client.proofs.Bodies.{says_once}
 

@@ -9,10 +9,10 @@ use Rattle.frames.specs.declared.fault.FrameFault.{FrameFault}
 use Rattle.frames.specs.declared.back.Back.{Back}
 use Rattle.pqformat.proofs.Codec.{ok_is}
 use Rattle.pgoutput.specs.declared.relation.Relation.{Relation}
-use Rattle.stream.specs.declared.word.Word.{Word}
-use Rattle.stream.specs.Words.{word_bytes, frames_of, FitsWord}
-use Rattle.stream.specs.Items.{Item, item_words, words_of, bytes_of_items, FitItems}
-use Rattle.stream.proofs.Ranges.{words_fit}
+use Rattle.pgoutput.specs.declared.word.Word.{Word}
+use Rattle.pgoutput.specs.Words.{word_bytes, frames_of, FitsWord}
+use Rattle.pgoutput.specs.Items.{Item, item_words, words_of, bytes_of_items, FitItems}
+use Rattle.pgoutput.proofs.Ranges.{words_fit}
 use Rattle.client.specs.declared.fault.ClientFault.{ClientFault}
 use Rattle.client.specs.declared.fault.ClientFault.TheVariants as faults
 use Rattle.client.specs.Words.{Waits, IsNoWord, IsError, Holds}

@@ -7,8 +7,8 @@ use Rattle.std.specs.Map.{lookup}
 use Rattle.std.proofs.lemmas.List.{append-nil, take-append-drop}
 use Rattle.pqformat.specs.Steps.{◌>>=◌}
 use Rattle.pqformat.proofs.Codec.{ok_is}
-use Rattle.logical.specs.declared.logical.Logical.{Logical}
-use Rattle.logical.specs.declared.logical.Logical.TheVariants as logical
+use Rattle.pgoutput.specs.declared.logical.Logical.{Logical}
+use Rattle.pgoutput.specs.declared.logical.Logical.TheVariants as logical
 use Rattle.pgoutput.specs.declared.begin.Begin.{Begin}
 use Rattle.pgoutput.specs.declared.commit.Commit.{Commit}
 use Rattle.pgoutput.specs.declared.message.Message.{Message}
@@ -16,8 +16,8 @@ use Rattle.pgoutput.specs.declared.relation.Relation.{Relation}
 use Rattle.pgoutput.specs.declared.tuple.Cell.{Cell}
 use Rattle.pgoutput.specs.declared.old_tuple.OldTuple.{OldTuple}
 use Rattle.pgoutput.specs.OldTuple.{cells_of}
-use Rattle.stream.specs.declared.word.Word.{Word}
-use Rattle.stream.specs.declared.word.Word.TheVariants as words
+use Rattle.pgoutput.specs.declared.word.Word.{Word}
+use Rattle.pgoutput.specs.declared.word.Word.TheVariants as words
 use Rattle.client.specs.declared.fault.ClientFault.{ClientFault}
 use Rattle.client.specs.declared.fault.ClientFault.TheVariants as faults
 use Rattle.client.specs.Words.{SpellsWord, AreSpelled, IsUnread}

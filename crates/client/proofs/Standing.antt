@@ -4,15 +4,15 @@ use Rattle.std.specs.Prelude.{◌⊎◌}
 use Rattle.std.specs.List.{AllByRecursion}
 use Rattle.std.proofs.lemmas.List.{append-nil}
 use Rattle.pqformat.specs.Steps.{◌>>=◌}
-use Rattle.logical.specs.declared.logical.Logical.{Logical}
-use Rattle.logical.specs.declared.logical.Logical.TheVariants as logical
+use Rattle.pgoutput.specs.declared.logical.Logical.{Logical}
+use Rattle.pgoutput.specs.declared.logical.Logical.TheVariants as logical
 use Rattle.pgoutput.specs.declared.relation.Relation.{Relation}
-use Rattle.stream.specs.declared.word.Word.{Word}
-use Rattle.stream.specs.declared.word.Word.TheVariants as words
-use Rattle.stream.specs.declared.published.Published.{Published}
-use Rattle.stream.specs.declared.published.PublishedChange.{PublishedChange}
-use Rattle.stream.proofs.Lists.{all_of_both}
-use Rattle.stream.specs.Items.{Item, KeepaliveItem, Block, words_by, note_words, xlogdata_word, tables_of, relations_due, relations_sent_by, relation_words, change_words, changes_words, begin_message, commit_message, item_words, words_of, relations_sent_after, IsOfChange, FitsChange, FitChanges, FitsItem, FitItems}
+use Rattle.pgoutput.specs.declared.word.Word.{Word}
+use Rattle.pgoutput.specs.declared.word.Word.TheVariants as words
+use Rattle.pgoutput.specs.declared.published.Published.{Published}
+use Rattle.pgoutput.specs.declared.published.PublishedChange.{PublishedChange}
+use Rattle.pgoutput.proofs.Lists.{all_of_both}
+use Rattle.pgoutput.specs.Items.{Item, KeepaliveItem, Block, words_by, note_words, xlogdata_word, tables_of, relations_due, relations_sent_by, relation_words, change_words, changes_words, begin_message, commit_message, item_words, words_of, relations_sent_after, IsOfChange, FitsChange, FitChanges, FitsItem, FitItems}
 use Rattle.client.specs.declared.fault.ClientFault.{ClientFault}
 use Rattle.client.specs.Subscriber.{Subscriber, HalfTransaction, judgement_of_change, after_begin, after_relation, after_change, with_change, after_logical_message, after_message, after_word, after_words}
 use Rattle.client.specs.Law.{position_after, gained_transactions, relations_sent_with}

@@ -1,13 +1,13 @@
 -- Worked streams by which the definitions were checked: one transaction with one insert, and what is out of order.
 use Rattle.std.specs.Prelude.{◌≡◌, ℕ, pos, negsuc, codes, Bool, true, false, List, [], ◌∷◌, None, Result, Ok, Err, refl}
-use Rattle.logical.specs.declared.logical.Logical.{Logical}
-use Rattle.logical.specs.declared.logical.Logical.TheVariants as logical
+use Rattle.pgoutput.specs.declared.logical.Logical.{Logical}
+use Rattle.pgoutput.specs.declared.logical.Logical.TheVariants as logical
 use Rattle.pgoutput.specs.declared.relation.Relation.{Relation}
 use Rattle.pgoutput.specs.declared.relation.Identity.TheVariants as identities
 use Rattle.pgoutput.specs.declared.tuple.Cell.TheVariants as cells
-use Rattle.stream.specs.declared.word.Word.{Word}
-use Rattle.stream.specs.declared.published.Published.{Published}
-use Rattle.stream.specs.Items.{Item, KeepaliveItem, Block, xlogdata_word, keepalive_word, begin_message, commit_message, words_of}
+use Rattle.pgoutput.specs.declared.word.Word.{Word}
+use Rattle.pgoutput.specs.declared.published.Published.{Published}
+use Rattle.pgoutput.specs.Items.{Item, KeepaliveItem, Block, xlogdata_word, keepalive_word, begin_message, commit_message, words_of}
 use Rattle.client.specs.declared.fault.ClientFault.{ClientFault}
 use Rattle.client.specs.declared.fault.ClientFault.TheVariants.{Order, UnknownRelation}
 use Rattle.client.specs.Subscriber.{Subscriber, subscriber_at_rest, after_words}

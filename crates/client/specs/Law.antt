@@ -1,9 +1,9 @@
 -- What a stream makes of a subscriber: from each beginning of it, in any cuts, the transactions that stand whole there.
 use Rattle.std.specs.Prelude.{◌≡◌, ℕ, ◌<◌, List, [], ◌∷◌, ◌++◌, length, max, nat_le, Result, Ok, Err, if◌then◌else◌}
 use Rattle.pgoutput.specs.declared.relation.Relation.{Relation}
-use Rattle.stream.specs.declared.published.Published.{Published}
-use Rattle.stream.specs.Words.{frames_of}
-use Rattle.stream.specs.Items.{Item, KeepaliveItem, Block, bytes_of_items, item_words, relations_sent_after, FitItems}
+use Rattle.pgoutput.specs.declared.published.Published.{Published}
+use Rattle.pgoutput.specs.Words.{frames_of}
+use Rattle.pgoutput.specs.Items.{Item, KeepaliveItem, Block, bytes_of_items, item_words, relations_sent_after, FitItems}
 use Rattle.client.specs.declared.fault.ClientFault.{ClientFault}
 use Rattle.client.specs.declared.fault.ClientFault.TheVariants.{Memory}
 use Rattle.client.specs.Subscriber.{Subscriber, subscriber_at_rest}

@@ -1,6 +1,6 @@
 -- What an applier makes of the bytes that it takes.
 use Rattle.std.specs.Prelude.{◌≡◌, ℕ, ◌⊎◌, List, ◌++◌, Option, Some, None, Result, Ok, Err}
-use Rattle.stream.specs.declared.word.Word.{Word}
+use Rattle.pgoutput.specs.declared.word.Word.{Word}
 use Rattle.client.specs.declared.fault.ClientFault.{ClientFault}
 use Rattle.client.specs.declared.fault.ClientFault.TheVariants.{Order, UnknownRelation}
 use Rattle.client.specs.Subscriber.{Subscriber, after_word, after_words}

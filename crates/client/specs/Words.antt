@@ -10,10 +10,10 @@ use Rattle.frames.specs.declared.back.Back.TheVariants.{CopyData, ErrorResponse}
 use Rattle.copyboth.specs.XLogData.{XLogDataBody}
 use Rattle.copyboth.specs.Server.{SpellsXLogData, SpellsKeepalive}
 use Rattle.pgoutput.specs.declared.fault.OutFault.TheVariants as outs
-use Rattle.logical.specs.declared.logical.Logical.{Logical}
-use Rattle.logical.specs.Logical.{SpellsLogical, Stands}
-use Rattle.stream.specs.declared.word.Word.{Word}
-use Rattle.stream.specs.declared.word.Word.TheVariants as words
+use Rattle.pgoutput.specs.declared.logical.Logical.{Logical}
+use Rattle.pgoutput.specs.Logical.{SpellsLogical, Stands}
+use Rattle.pgoutput.specs.declared.word.Word.{Word}
+use Rattle.pgoutput.specs.declared.word.Word.TheVariants as words
 use Rattle.client.specs.declared.fault.ClientFault.{ClientFault}
 use Rattle.client.specs.declared.fault.ClientFault.TheVariants.{Frame, Order, UnknownRelation, Server, Memory}
 

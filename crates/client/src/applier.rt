@@ -14,9 +14,9 @@ use crate::progress::Progress;
 use crate::reading::read_word;
 use crate::status::status_frame;
 use bytes::BytesMut;
+use pgoutput::Published;
 use std::alloc::Global;
 use std::marker::Model;
-use stream::Published;
 
 /// Applies the published transactions of a stream, each once.
 ///

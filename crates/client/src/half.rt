@@ -3,12 +3,10 @@
 ghost use Rattle.std.specs.Prelude.{◌≡◌, [], OnErr, OnOk};
 ghost use Rattle.client.specs.Subscriber.{transaction_of, with_change};
 
-use logical::Logical;
-use pgoutput::{Begin, Commit};
+use pgoutput::{Begin, Commit, Logical, Published, PublishedChange};
 use pqformat::Items;
 use std::alloc::{AllocError, Global};
 use std::marker::Model;
-use stream::{Published, PublishedChange};
 
 #[derive(Drop)]
 pub(crate) struct Half {

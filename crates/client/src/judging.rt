@@ -1,14 +1,13 @@
 //! Whether a change fits the tables that were told.
 
 ghost use Rattle.std.specs.Prelude.{◌≡◌};
-ghost use Rattle.logical.specs.declared.logical.Logical.TheVariants as Logical;
+ghost use Rattle.pgoutput.specs.declared.logical.Logical.TheVariants as Logical;
 ghost use Rattle.client.specs.Subscriber.{are_told, columns_of, fits, fits_old, judgement_of_change, judgement_of_row};
 ghost use Rattle.pgoutput.specs.OldTuple.{cells_of};
 
 use crate::fault::ClientFault;
 use indexmap::IndexMap;
-use logical::Logical;
-use pgoutput::{Cell, OldTuple, Update};
+use pgoutput::{Cell, Logical, OldTuple, Update};
 use pqformat::Items;
 
 /// How many columns each table has, by its OID.

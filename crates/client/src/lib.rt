@@ -12,4 +12,4 @@ mod status;
 
 pub use applier::Applier;
 pub use fault::ClientFault;
-pub use stream::{Published as Applied, PublishedChange};
+pub use pgoutput::{Published as Applied, PublishedChange};

@@ -3,11 +3,9 @@
 ghost use Rattle.std.specs.Prelude.{◌≡◌, IfOk};
 ghost use Rattle.client.specs.Subscriber.{note_of};
 
-use logical::Logical;
-use pgoutput::Message;
+use pgoutput::{Logical, Message, Published, PublishedChange};
 use pqformat::Items;
 use std::alloc::{AllocError, Global};
-use stream::{Published, PublishedChange};
 
 /// The note as it is applied: its message is its one change, and it has neither time nor xid.
 pub(crate) fn note_of(alloc: Global, end: u64, message: Message) -> Result<Published, AllocError>

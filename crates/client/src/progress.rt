@@ -8,11 +8,9 @@ use crate::half::Half;
 use crate::judging::{Tables, judge};
 use crate::note::note_of;
 use indexmap::IndexMap;
-use logical::Logical;
-use pgoutput::{Begin, Commit, Message, Relation};
+use pgoutput::{Begin, Commit, Keepalive, Logical, Message, Published, Relation, Word, XLogData};
 use std::alloc::{AllocError, Global};
 use std::marker::Model;
-use stream::{Keepalive, Published, Word, XLogData};
 
 /// A subscriber: what it has applied, and what it knows since it connected.
 #[derive(Drop)]

@@ -6,10 +6,8 @@ ghost use Rattle.client.specs.Words.{Reads, ReadsBody, ReadsFrame, ReadsMessage,
 use crate::fault::ClientFault;
 use copyboth::{ServerBody, read_server};
 use frames::{Back, FrameFault, read_back};
-use logical::{Logical, read_logical};
-use pgoutput::OutFault;
+use pgoutput::{Keepalive, Logical, OutFault, Word, XLogData, read_logical};
 use std::alloc::Global;
-use stream::{Keepalive, Word, XLogData};
 
 /// The word at the front, and how many bytes its frame takes; None while no frame is there whole.
 ///

@@ -7,10 +7,10 @@ use Rattle.pqformat.proofs.items.Items.TheSendSync as items
 use Rattle.pqformat.proofs.text.Text.TheSendSync as text
 use Rattle.tables.proofs.table.Table.TheSendSync as table
 use Rattle.rowfilter.proofs.Crossing.{filter_send, filter_sync}
-use Rattle.published_tables.specs.contracts.published_table.PublishedTable as published
-use Rattle.published_tables.specs.contracts.publication.Publication as publication
+use Rattle.publication_config.specs.contracts.published_table.PublishedTable as published
+use Rattle.publication_config.specs.contracts.publication.Publication as publication
 use Rattle.publication.specs.contracts.selection.Selection as selection
-use Rattle.publications.specs.contracts.publications.Publications as publications
+use Rattle.publication.specs.contracts.publications.Publications as publications
 use Rattle.shared_log.specs.declared.name.LogName as log_name
 use Rattle.shared_log.proofs.reader.LogReader.TheSendSync as reader
 use Rattle.slots.specs.declared.rule.SlotName as slot_name

@@ -5,7 +5,7 @@ use Rattle.std.specs.List.{AllByRecursion, list_any}
 use Rattle.std.specs.Str.{bytes_eq}
 use Rattle.std.proofs.lemmas.Bool.Decides.{nat_tests}
 use Rattle.publication.specs.Publications.{PublicationSet}
-use Rattle.answers.specs.Answers.{IsShort}
+use Rattle.server.specs.Answers.{IsShort}
 use Rattle.commons.specs.Published.{is_publication}
 
 short_name : (n : ℕ) (rest : Bool) → (nat_le n 63 && rest) ≡ true → n < 2 ^ 16

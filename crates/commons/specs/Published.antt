@@ -3,9 +3,9 @@ use Rattle.std.specs.Prelude.{ℕ, nat_le, Bool, ◌&&◌, List, filter, length,
 use Rattle.std.specs.List.{filter_map, list_any}
 use Rattle.std.specs.Str.{bytes_eq}
 use Rattle.publication.specs.Publications.{PublicationSet}
-use Rattle.publications.specs.Publications.{selected_publications}
+use Rattle.publication.specs.Choosing.{selected_publications}
 use Rattle.publication.specs.Selection.{selected_oids, selected_table}
-use Rattle.answers.specs.declared.table_name.TableName.{TableName}
+use Rattle.server.specs.declared.table_name.TableName.{TableName}
 use Rattle.commons.specs.declared.published.TheConstants.{MOST_NAME_BYTES}
 
 -- A publication has this name. PostgreSQL's names are no longer.

@@ -1,6 +1,6 @@
 -- What a desk answers where slots or publications refused.
-use Rattle.answers.specs.declared.fault.DeskFault.{DeskFault}
-use Rattle.answers.specs.declared.fault.DeskFault.TheVariants as desks
+use Rattle.server.specs.declared.desk_fault.DeskFault.{DeskFault}
+use Rattle.server.specs.declared.desk_fault.DeskFault.TheVariants as desks
 use Rattle.slots.specs.declared.fault.SlotFault.{SlotFault}
 use Rattle.slots.specs.declared.fault.SlotFault.TheVariants as slots
 use Rattle.publication_config.specs.declared.fault.PubFault.{PubFault}

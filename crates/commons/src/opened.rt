@@ -8,7 +8,7 @@ use crate::settings::HubSettings;
 use crate::system::SystemName;
 use catalog::Catalog;
 use pqformat::Text;
-use publications::Publications;
+use publication::Publications;
 use slots::OpenedSlots;
 use std::alloc::Global;
 use std::time::Duration;

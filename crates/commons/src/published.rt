@@ -2,15 +2,14 @@
 
 ghost use Rattle.std.specs.Prelude.{◌≡◌, IfOk, IfSome, filter};
 ghost use Rattle.std.specs.List.{AllByRecursion};
-ghost use Rattle.answers.specs.Answers.{IsShort, IsShortName};
+ghost use Rattle.server.specs.Answers.{IsShort, IsShortName};
 ghost use Rattle.commons.specs.Published.{is_publication, tables_in, tables_told, told_table};
 
 use crate::refusals::of_publications;
-use answers::{DeskFault, TableName};
-use logical::Logical;
+use pgoutput::Logical;
 use pqformat::{Items, Text};
-use publication::Selection;
-use publications::{PubFault, Publications};
+use publication::{PubFault, Publications, Selection};
+use server::{DeskFault, TableName};
 use std::alloc::{AllocError, Global};
 use std::slice;
 

@@ -3,8 +3,8 @@
 ghost use Rattle.std.specs.Prelude.{◌≡◌};
 ghost use Rattle.commons.specs.Refusals.{of_publications, of_slot};
 
-use answers::DeskFault;
-use publications::PubFault;
+use publication::PubFault;
+use server::DeskFault;
 use slots::SlotFault;
 
 pub fn of_slot(fault: SlotFault) -> DeskFault

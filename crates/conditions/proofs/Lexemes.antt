@@ -12,10 +12,10 @@ use Rattle.conditions.specs.declared.token.Token.{Token}
 use Rattle.conditions.specs.declared.token.Token.TheVariants.{Word, Number, Quoted, Text, Mark, Pair, Stray}
 use Rattle.conditions.specs.declared.token.TheConstants.{NAME_QUOTE, TEXT_QUOTE, MINUS}
 use Rattle.conditions.specs.Tokens.{is_blank, is_first, is_later, is_mark, is_pair, spelling_of_token, without_minus, Each, IsWhole, StartsWith, Spells}
-use Rattle.quoting.specs.Quoting.{begins, in_quotes, quoted_at}
+use Rattle.pqformat.specs.Quoting.{begins, in_quotes, quoted_at}
 use Rattle.conditions.specs.Lexing.{is_of, run_of, after_run, closed_token, signed_at, one_mark, mark_at, token_behind, token_from, token_at, Lexes, lent, is_stray}
 use Rattle.conditions.proofs.Pieces.{run_takes, run_again}
-use Rattle.quoting.proofs.Quoting.{if_true, if_false, found, whole_takes, whole_again}
+use Rattle.pqformat.proofs.Quoting.{if_true, if_false, found, whole_takes, whole_again}
 
 -- ---- what is read is spelled
 

@@ -1,7 +1,7 @@
 -- The runs of bytes of a class, of which tokens are made, as they are read and as they are spelled.
 use Rattle.std.proofs.Common.{◌≡◌, ℕ, Bool, true, false, cond, List, [], ◌∷◌, ◌++◌, refl, ap, ◌∙◌, arith}
-use Rattle.quoting.specs.Quoting.{begins}
-use Rattle.quoting.proofs.Quoting.{if_true, if_false}
+use Rattle.pqformat.specs.Quoting.{begins}
+use Rattle.pqformat.proofs.Quoting.{if_true, if_false}
 use Rattle.conditions.specs.declared.class.Class.{Class}
 use Rattle.conditions.specs.Tokens.{Each}
 use Rattle.conditions.specs.Lexing.{is_of, run_of, after_run}

@@ -11,7 +11,7 @@ use Rattle.conditions.specs.Words.{Saying, SayAnd, SayOr, SayNot, SayIs, SayComp
 use Rattle.conditions.specs.Grammar.{Phrase, InName, InUnknown, InNumber, InText, InBool, InNull, InParentheses, InCompare, InIs, InNot, InAnd, InOr, saying_of_question, sayings_of, tightness, IsBound}
 use Rattle.conditions.specs.Stacks.{binds, left_of, Pending, Enclosing, Denying, Joining, wants, completed, State, Wanting, Having, Asking, wanted_by, folded, joins, asks, closes_over, ends_over, run, word_of}
 use Rattle.conditions.specs.Parts.{phrases, leaf_of}
-use Rattle.quoting.proofs.Quoting.{if_true, if_false}
+use Rattle.pqformat.proofs.Quoting.{if_true, if_false}
 use Rattle.conditions.proofs.Phrases.{Items, at_least_zero}
 
 abbrev Sayings : Type 0

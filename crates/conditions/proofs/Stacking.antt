@@ -9,7 +9,7 @@ use Rattle.conditions.specs.declared.token.Token.{Token}
 use Rattle.conditions.specs.Stacks.{Pending, State, wants, wanted_by, folded, completed, ends_over, run, step}
 use Rattle.conditions.specs.Parts.{Grown, parts, word_at}
 use Rattle.conditions.specs.Views.{seen_pending, stack_on, stack_of}
-use Rattle.quoting.proofs.Quoting.{if_true}
+use Rattle.pqformat.proofs.Quoting.{if_true}
 
 on_top : (below : List (Pending Grown)) (items : List Item) (item : Item) → stack_on below (items ++ item ∷ []) ≡ seen_pending item ∷ stack_on below items
 on_top below [] item = refl

@@ -2,7 +2,7 @@
 use Rattle.std.specs.Prelude.{Result, Ok, Err, ◌≡◌, ℕ, ◌==◌, List, [], ◌∷◌, Option, Some, None, option_map, Bool, true, false, if◌then◌else◌}
 use Rattle.std.specs.declared.vec.Vec.{Vec}
 use Rattle.std.specs.declared.alloc.Global.{Global}
-use Rattle.quoting.specs.Quoting.{begins, quoted_at}
+use Rattle.pqformat.specs.Quoting.{begins, quoted_at}
 use Rattle.conditions.specs.declared.fault.FilterFault.{FilterFault}
 use Rattle.conditions.specs.declared.fault.FilterFault.TheVariants.{Memory}
 use Rattle.std.specs.Borrow.{Bor}

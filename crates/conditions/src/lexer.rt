@@ -9,14 +9,13 @@ ghost use Rattle.conditions.specs.declared.fault.FilterFault.TheVariants.{Memory
 ghost use Rattle.conditions.specs.declared.token.TheConstants.{NAME_QUOTE, TEXT_QUOTE};
 ghost use Rattle.conditions.specs.declared.class.Class.TheVariants as classes;
 ghost use Rattle.conditions.specs.Tokens.{Spells, is_first, is_mark, is_pair};
-ghost use Rattle.quoting.specs.Quoting.{begins, quoted_at};
+ghost use Rattle.pqformat.specs.Quoting.{begins, quoted_at};
 ghost use Rattle.conditions.specs.Lexing.{GivesTokens, is_stray, Lexes, after_run, closed_token, lent, lent_token, mark_at, one_mark, run_of, signed_at, token_at, token_behind};
 
 use crate::class::Class;
 use crate::fault::FilterFault;
 use crate::token::{MINUS, NAME_QUOTE, TEXT_QUOTE, Token};
-use pqformat::Items;
-use quoting::{nothing_of, quoted_bytes};
+use pqformat::{Items, nothing_of, quoted_bytes};
 use std::alloc::{AllocError, Global};
 
 fn is_first(b: u8) -> bool

@@ -7,7 +7,7 @@ ghost use Rattle.configuration.specs.Config.{IsServer, Names, ReadsSetting, name
 use crate::config_fault::ConfigFault;
 use crate::server::{Server, server_of};
 use catalog::{Catalog, CatalogFault, read_document};
-use publications::{PubFault, Publications};
+use publication::{PubFault, Publications};
 use std::alloc::{AllocError, Global};
 use std::marker::Model;
 use toml::Value;
@@ -60,7 +60,7 @@ fn of_publications(
 ) -> Result<String, AllocError> {
     if let Ok(document) = read_document(alloc, text) {
         if let Ok(catalog) = Catalog::of_document(alloc, &document) {
-            return publications::explained(alloc, &document, &catalog, why);
+            return publication::explained(alloc, &document, &catalog, why);
         }
     }
     fault.to_string(alloc)

@@ -6,7 +6,7 @@ ghost use Rattle.configuration.specs.Config.{is_memory, unread_fault};
 
 use crate::server::Unread;
 use catalog::CatalogFault;
-use publications::PubFault;
+use publication::PubFault;
 use std::alloc::AllocError;
 use std::fmt;
 use thiserror::Error;

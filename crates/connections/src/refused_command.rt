@@ -1,8 +1,8 @@
 //! A command that was refused, for whoever runs the server.
 
-use answers::DeskFault;
 use pqformat::Text;
 use replcmd::CmdFault;
+use server::DeskFault;
 use std::fmt;
 
 /// How many publications are told of, and how many bytes of each: PostgreSQL's names have no more.

@@ -1,9 +1,8 @@
 //! The desk of a server without slots.
 
-use answers::{DeskFault, TableName};
 use pqformat::{Items, Text};
 use replcmd::StreamOptions;
-use server::Desk;
+use server::{Desk, DeskFault, TableName};
 
 /// What a connection asks of its server: where the log ends, and for slots, of which this one has none.
 #[derive(Drop)]

@@ -3,8 +3,7 @@
 use anyhow::Result;
 use catalog::Catalog;
 use pqformat::Text;
-use publication::Selection;
-use publications::Publications;
+use publication::{Publications, Selection};
 use std::alloc::{AllocError, Global};
 use tables::{Row, Value};
 

@@ -1,6 +1,6 @@
 -- Each transaction once: what a follower gains over its connections, printed and not yet printed.
 use Rattle.std.specs.Prelude.{◌≡◌, ℕ, ◌≤◌, List, [], ◌∷◌, ◌++◌, max, None}
-use Rattle.stream.specs.declared.published.Published.{Published}
+use Rattle.pgoutput.specs.declared.published.Published.{Published}
 use Rattle.client.specs.Subscriber.{Subscriber, subscriber_at_rest}
 use Rattle.client.specs.Taking.{ApplierState}
 

@@ -1,6 +1,6 @@
 -- All that is done with an intake over its connections, one deed after the other.
 use Rattle.std.specs.Prelude.{◌≡◌, ℕ, List, [], ◌∷◌, ◌++◌, None, Result, Ok, Err}
-use Rattle.stream.specs.declared.published.Published.{Published}
+use Rattle.pgoutput.specs.declared.published.Published.{Published}
 use Rattle.client.specs.declared.fault.ClientFault.{ClientFault}
 use Rattle.client.specs.Subscriber.{subscriber_at_rest}
 use Rattle.client.specs.Taking.{ApplierState, Takes}

@@ -1,6 +1,6 @@
 -- What a printed line counts as: a Commit ends its transaction, and a note is one by itself, as the next run finds them in the output.
 use Rattle.std.specs.Prelude.{ℕ, Bool, true, false, Option, Some, None}
-use Rattle.json_lines.specs.Ending.{behind}
+use Rattle.message_lines.specs.Ending.{behind}
 use Rattle.follower.specs.declared.line.Line.{Line}
 use Rattle.follower.specs.declared.told.Told.{Told}
 use Rattle.follower.specs.declared.told.Told.TheVariants.{Begin, Change, Message, Note, Commit}

@@ -2,7 +2,7 @@
 
 use client::ClientFault;
 use frames::{ErrorResponse, FrameFault};
-use json_lines::LineFault;
+use message_lines::LineFault;
 use pqformat::Text;
 use std::alloc::AllocError;
 use std::{fmt, io};

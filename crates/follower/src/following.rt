@@ -11,11 +11,11 @@ use crate::streamed::{body_in, carried, message_in, print_lines};
 use client::{Applier, ClientFault};
 use copyboth::ServerBody;
 use frames::{Back, Front};
-use logical::Logical;
+use message_lines::render;
+use pgoutput::Logical;
 use std::alloc::{AllocError, Global};
 use std::io::{Read, Write};
 use std::sync::Wait;
-use text_lines::render;
 
 /// Asks a server for a stream of the slot, and prints each message on a line, in the form of the options. Behind each Commit, and
 /// behind each message outside of a transaction, it tells the server its position, and once it has as many of these as it should it

@@ -3,7 +3,7 @@
 /// How messages are printed.
 #[derive(Clone, Copy, PartialEq, Eq)]
 pub enum Form {
-    /// A line for people, as `text_lines::render` has it.
+    /// A line for people, as `message_lines::render` has it.
     Text,
     /// An object of JSON, as users of wal2json know it, and one more line where the stream ends.
     Json,

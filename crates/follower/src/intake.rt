@@ -4,7 +4,7 @@ ghost use Rattle.std.specs.Prelude.{◌≡◌, ◌-◌, ◌↔◌, ◌≤◌, []
 ghost use Rattle.frames.specs.Frame.{frame};
 ghost use Rattle.frames.specs.declared.copy_data.TheConstants.{COPY_DATA};
 ghost use Rattle.copyboth.specs.Status.{status};
-ghost use Rattle.stream.specs.declared.published.Published.{Published};
+ghost use Rattle.pgoutput.specs.declared.published.Published.{Published};
 ghost use Rattle.client.specs.Subscriber.{subscriber_at_rest};
 ghost use Rattle.client.specs.Taking.{HasTaken, Takes};
 ghost use Rattle.client.specs.Law.{Follows};

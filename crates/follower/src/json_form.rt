@@ -2,12 +2,12 @@
 
 ghost use Rattle.std.specs.Prelude.{◌≡◌, [], ◌∷◌, ◌++◌, ℕ, List, None, IfOk, length};
 ghost use Rattle.std.specs.Str.{IsUtf8};
-ghost use Rattle.json_lines.specs.Ending.{end_of};
-ghost use Rattle.json_lines.specs.Fronts.{Tells};
+ghost use Rattle.message_lines.specs.Ending.{end_of};
+ghost use Rattle.message_lines.specs.Fronts.{Tells};
 
 use crate::line::Line;
 use crate::whole::whole;
-use json_lines::{begins_one, end_of, is_change_line, is_note_line};
+use message_lines::{begins_one, end_of, is_change_line, is_note_line};
 use std::alloc::{AllocError, Global};
 
 /// What the line tells.

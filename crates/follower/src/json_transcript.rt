@@ -6,12 +6,11 @@ use crate::streamed::{begin_of, commit_of};
 use crate::told::Told;
 use client::{Applied, ClientFault};
 use indexmap::IndexMap;
-use json_lines::{
+use message_lines::{
     begin_line, commit_line, delete_line, insert_line, message_line, summary_line, truncate_line,
     update_line,
 };
-use logical::Logical;
-use pgoutput::{Begin, Commit, Message, Relation, Truncate};
+use pgoutput::{Begin, Commit, Logical, Message, Relation, Truncate};
 use std::alloc::{AllocError, Global};
 
 /// What was told of tables, over all connections, and what the output holds with all lines that were made.

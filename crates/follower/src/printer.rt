@@ -6,8 +6,7 @@ use crate::json_transcript::JsonTranscript;
 use crate::kept::Kept;
 use crate::transcript::Transcript;
 use client::Applied;
-use logical::Logical;
-use pgoutput::Relation;
+use pgoutput::{Logical, Relation};
 use std::alloc::{AllocError, Global};
 
 /// What makes lines of transactions.

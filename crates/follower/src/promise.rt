@@ -2,8 +2,8 @@
 
 ghost use Rattle.std.specs.Prelude.{◌≡◌, ℕ, List, [], ◌++◌};
 ghost use Rattle.pgoutput.specs.declared.relation.Relation.{Relation};
-ghost use Rattle.stream.specs.declared.published.Published.{Published};
-ghost use Rattle.stream.specs.Items.{Item, bytes_of_items, FitItems};
+ghost use Rattle.pgoutput.specs.declared.published.Published.{Published};
+ghost use Rattle.pgoutput.specs.Items.{Item, bytes_of_items, FitItems};
 ghost use Rattle.client.specs.Taking.{ApplierState};
 ghost use Rattle.client.specs.Law.{GainedAll};
 ghost use Rattle.follower.specs.Once.{EachOnce, applier_at_connection, before};

@@ -4,8 +4,7 @@ use crate::fault::{FollowFault, told};
 use client::{Applied, ClientFault};
 use copyboth::{ServerBody, read_server};
 use frames::{Back, CopyData};
-use logical::{Logical, read_logical};
-use pgoutput::{Begin, Commit, OutFault};
+use pgoutput::{Begin, Commit, Logical, OutFault, read_logical};
 use std::alloc::Global;
 use std::io::Write;
 

@@ -4,7 +4,7 @@ ghost use Rattle.std.specs.Prelude.{◌≡◌};
 ghost use Rattle.follower.specs.Told.{told_begins, told_end, told_is_change, told_is_note, told_line};
 
 use crate::line::Line;
-use json_lines::behind;
+use message_lines::behind;
 
 /// What a line tells that is printed.
 #[derive(Clone, Copy)]

@@ -3,9 +3,9 @@
 use crate::streamed::{begin_of, commit_of};
 use client::Applied;
 use indexmap::IndexMap;
-use logical::Logical;
+use message_lines::render;
+use pgoutput::Logical;
 use std::alloc::{AllocError, Global};
-use text_lines::render;
 
 /// What was told of tables, over all connections, and whether it is printed already: the Relation of a table stands once in front
 /// of its first change, though each connection tells it again.

@@ -7,8 +7,8 @@ use Rattle.std.proofs.KnownBytes.{Appends-nil, Appends-trans}
 use Rattle.shared_log.specs.Readers.{seen_of}
 use Rattle.wal.specs.declared.record.Record.{Record}
 use Rattle.walsender.specs.declared.walsender.Walsender.{Walsender}
-use Rattle.stream.specs.Words.{word_bytes}
-use Rattle.stream.specs.Items.{keepalive_word}
+use Rattle.pgoutput.specs.Words.{word_bytes}
+use Rattle.pgoutput.specs.Items.{keepalive_word}
 use Rattle.hub.specs.declared.streaming.TheConstants.{CLOCK}
 use Rattle.walsender.specs.Serving.{Gives, Serves, WritesFirst}
 use Rattle.walsender.proofs.Serving.{nothing_given}

@@ -1,6 +1,6 @@
 -- What a desk answers where a stream doesn't begin.
-use Rattle.answers.specs.declared.fault.DeskFault.{DeskFault}
-use Rattle.answers.specs.declared.fault.DeskFault.TheVariants as desks
+use Rattle.server.specs.declared.desk_fault.DeskFault.{DeskFault}
+use Rattle.server.specs.declared.desk_fault.DeskFault.TheVariants as desks
 use Rattle.walsender.specs.declared.beginning.ClaimFault.TheVariants as claims
 use Rattle.walsender.specs.declared.beginning.StartFault.{StartFault}
 use Rattle.walsender.specs.declared.beginning.StartFault.TheVariants as starts

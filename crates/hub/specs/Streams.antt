@@ -2,10 +2,10 @@
 use Rattle.std.specs.Prelude.{◌≡◌, ◌⊎◌, ℕ, zero, suc, List, [], ◌++◌, false}
 use Rattle.std.specs.declared.option.Option.{Option}
 use Rattle.std.specs.Io.KnownBytes.{Appends}
-use Rattle.stream.specs.Words.{word_bytes}
-use Rattle.stream.specs.Items.{keepalive_word}
+use Rattle.pgoutput.specs.Words.{word_bytes}
+use Rattle.pgoutput.specs.Items.{keepalive_word}
 use Rattle.publication.specs.Publications.{PublicationSet}
-use Rattle.publications.specs.Publications.{selected_publications}
+use Rattle.publication.specs.Choosing.{selected_publications}
 use Rattle.replcmd.specs.declared.setting.StreamOptions.{StreamOptions}
 use Rattle.shared_log.specs.Readers.{seen_of}
 use Rattle.walsender.specs.declared.walsender.Walsender.{Walsender}

@@ -3,12 +3,11 @@
 use crate::granting::{begin_stream, end_stream};
 use crate::starting::HubStart;
 use crate::streaming::Stream;
-use answers::{DeskFault, TableName};
 use commons::{Commons, known_names, tables_of};
 use connections::{Gate, Line, RefusedCommand};
 use pqformat::{Items, Text};
 use replcmd::{CmdFault, StreamOptions};
-use server::Desk;
+use server::{Desk, DeskFault, TableName};
 use shared_log::LogName;
 use slots::SlotName;
 use std::sync::Wait;

@@ -3,8 +3,8 @@
 ghost use Rattle.std.specs.Prelude.{◌≡◌};
 ghost use Rattle.hub.specs.Refusals.{of_start};
 
-use answers::DeskFault;
 use commons::{of_publications, of_slot};
+use server::DeskFault;
 use walsender::{ClaimFault, StartFault};
 
 /// Why a stream doesn't begin.

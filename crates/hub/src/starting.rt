@@ -4,7 +4,7 @@ ghost use Rattle.std.specs.Prelude.{◌<◌};
 
 use crate::grant::{Means, StreamGrant};
 use commons::{Commons, Pair};
-use publications::PubFault;
+use publication::PubFault;
 use replcmd::StreamOptions;
 use shared_log::LogName;
 use slots::SlotName;

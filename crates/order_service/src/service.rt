@@ -10,7 +10,7 @@ use anyhow::Result;
 use catalog::Catalog;
 use hub::{Hub, OpenGate, OpenedHub, serve};
 use pqformat::Text;
-use publications::Publications;
+use publication::Publications;
 use shared_log::LogName;
 use slots::SlotName;
 use std::alloc::Global;

@@ -2,3 +2,17 @@ pub mod Loops
 pub mod Writing
 pub mod Engine
 pub mod Plain
+pub mod Wires
+pub mod Whole
+pub mod Stopping
+pub mod StoppingLists
+pub mod StoppingFields
+pub mod StoppingTexts
+pub mod Stopped
+pub mod StoppedRows
+pub mod Lost
+pub mod Lists
+pub mod Row
+pub mod Words
+pub mod Ranges
+pub mod OneReading

@@ -9,3 +9,8 @@ pub mod Update
 pub mod Delete
 pub mod Truncate
 pub mod Message
+pub mod Logical
+pub mod Layout
+pub mod Words
+pub mod Items
+pub mod Stream

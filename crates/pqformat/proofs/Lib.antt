@@ -4,3 +4,4 @@ pub mod Numbers
 pub mod Putting
 pub mod Texts
 pub mod Writing
+pub mod Quoting

@@ -2,3 +2,4 @@ pub mod Fields
 pub mod Putting
 pub mod Steps
 pub mod Writing
+pub mod Quoting

@@ -1,21 +1,35 @@
 //! `pubd CONFIG ADDR CONNECTIONS [SCRIPT]...` serves replication connections, and runs scripts beside them.
 #![tactic(auto)]
 
+mod command;
+mod command_fault;
+mod ending;
 mod fault;
+mod help;
+mod level;
+mod reports;
 mod scripts;
+mod status_page;
+mod status_text;
+mod times;
+mod words;
 
 ghost use Rattle.std.specs.Prelude.{◌≡◌};
 
+use command::words_of;
+use command_fault::CommandFault;
 use command_line::{arguments_of, ended};
 use configuration::{Config, config_at};
+use ending::{Doors, end_server};
 use fault::Fault;
 use hub::{Hub, HubFault, HubSettings, OpenedHub, serve};
-use pubd_command::{CommandFault, Level, Numbers, Words, words_of};
-use script_lines::{STANDARD_INPUT, Script, scripts_at};
-use scripting::run_input;
+use level::Level;
+use reports::Reports;
+use scripting::{STANDARD_INPUT, Script, run_input, scripts_at};
 use scripts::{end_script, run_all};
 use shared_log::LogName;
 use slots::SlotName;
+use status_page::serve_status;
 use std::alloc::{AllocError, Global};
 use std::io::{Print, Stdin};
 use std::marker::Brand;
@@ -26,7 +40,7 @@ use std::sync::atomic::{AtomicBool, Ordering};
 use std::thread::Threads;
 use std::time::Clock;
 use std::{io, thread};
-use supervision::{Doors, Reports, end_server, serve_status};
+use words::{Numbers, Words};
 
 fn main(rt: HostRuntime) -> ExitCode {
     ended(&rt, run(&rt, &rt))

@@ -1,8 +1,8 @@
 //! The scripts that run beside the connections, each on a thread of its own.
 
+use crate::ending::{Doors, end_server};
 use hub::Hub;
-use script_lines::Script;
-use scripting::{ScriptEnd, ScriptFault, run_steps};
+use scripting::{Script, ScriptEnd, ScriptFault, run_steps};
 use shared_log::LogName;
 use slots::SlotName;
 use std::io::Print;
@@ -11,7 +11,6 @@ use std::sync::atomic::{AtomicBool, Ordering};
 use std::thread::Threads;
 use std::time::Clock;
 use std::{io, thread};
-use supervision::{Doors, end_server};
 
 /// Runs each script to its end; one whose thread can't be had runs on this one, before those behind it. What ends one early is
 /// told at once on `errors`, where refused lines go too, and by `early`. The line `end` of one of them ends the server.

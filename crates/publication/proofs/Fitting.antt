@@ -7,8 +7,8 @@ use Rattle.std.proofs.lemmas.List.{length-append, length-map}
 use Rattle.std.proofs.lemmas.List.Concat.{flat_map-cons}
 use Rattle.pqformat.specs.Fields.{int32}
 use Rattle.pqformat.proofs.Numbers.{length-int32}
-use Rattle.logical.specs.declared.logical.Logical.{Logical}
-use Rattle.logical.specs.declared.logical.Logical.TheVariants as logical
+use Rattle.pgoutput.specs.declared.logical.Logical.{Logical}
+use Rattle.pgoutput.specs.declared.logical.Logical.TheVariants as logical
 use Rattle.pgoutput.specs.declared.tuple.Cell.{Cell}
 use Rattle.pgoutput.specs.declared.old_tuple.OldTuple.{OldTuple}
 use Rattle.pgoutput.specs.declared.old_tuple.OldTuple.TheVariants as olds
@@ -23,11 +23,11 @@ use Rattle.tables.specs.declared.change_body.TheConstants.{MAX_TRUNCATED}
 use Rattle.tables.specs.Tables.{repeats}
 use Rattle.tables.specs.Kinds.{IsValue}
 use Rattle.tables.specs.Tables.{table_of}
-use Rattle.stream.specs.Items.{FitsRelationOf}
-use Rattle.published_tables.specs.declared.operations.Operation.{Operation}
-use Rattle.published_tables.specs.declared.operations.Operation.TheVariants.{Insert, Update, Delete, Truncate}
-use Rattle.published_tables.specs.declared.publication.Publication.{Publication}
-use Rattle.published_tables.specs.Published.{PublicationSet, has, publishes}
+use Rattle.pgoutput.specs.Items.{FitsRelationOf}
+use Rattle.publication_config.specs.declared.operations.Operation.{Operation}
+use Rattle.publication_config.specs.declared.operations.Operation.TheVariants.{Insert, Update, Delete, Truncate}
+use Rattle.publication_config.specs.declared.publication.Publication.{Publication}
+use Rattle.publication_config.specs.Published.{PublicationSet, has, publishes}
 use Rattle.row_messages.specs.Relations.{relation_column, table_as_published, FitsTable}
 use Rattle.publication.specs.Selection.{has_table, list_by, relation, selected_table, whole_table, FitTables}
 use Rattle.row_messages.specs.Tuples.{old_by, old_row_of_update, tuple_behind, tuple_of}

@@ -6,7 +6,7 @@ use Rattle.std.specs.Option.{option_and_then, option_map}
 use Rattle.std.proofs.lemmas.Bool.{le-leb}
 use Rattle.pqformat.specs.Fields.{number_at}
 use Rattle.pqformat.specs.Steps.{◌>>=◌}
-use Rattle.logical.specs.declared.logical.Logical.{Logical}
+use Rattle.pgoutput.specs.declared.logical.Logical.{Logical}
 use Rattle.tables.specs.declared.change.Change.TheVariants as changes
 use Rattle.tables.specs.declared.change_body.TheConstants.{MAX_TRUNCATED}
 use Rattle.tables.specs.declared.fault.BodyFault.{BodyFault}
@@ -19,9 +19,9 @@ use Rattle.tables.specs.Reading.{insert_at, row_at, update_at}
 use Rattle.tables.specs.Refs.{IsLarge}
 use Rattle.tables.specs.Spelling.{row_length}
 use Rattle.tables.specs.Tables.{fits_table, table_of}
-use Rattle.published_tables.specs.declared.operations.Operation.{Operation}
-use Rattle.published_tables.specs.declared.operations.Operation.TheVariants.{Insert, Update, Delete, Truncate}
-use Rattle.published_tables.specs.Published.{PublicationSet}
+use Rattle.publication_config.specs.declared.operations.Operation.{Operation}
+use Rattle.publication_config.specs.declared.operations.Operation.TheVariants.{Insert, Update, Delete, Truncate}
+use Rattle.publication_config.specs.Published.{PublicationSet}
 use Rattle.row_messages.specs.Messages.{delete_message, insert_message, stands_in}
 use Rattle.publication.specs.Projection.{is_published, may_be_emptied, message, message_by, message_of_update, only_if, passes, row_as_published, stands, truncate_message}
 use Rattle.row_messages.specs.Relations.{FitsTable, table_as_published}

@@ -9,3 +9,5 @@ pub mod Repeats
 pub mod Room
 pub mod Standing
 pub mod Worked
+pub mod WorkedNames
+mod Judged

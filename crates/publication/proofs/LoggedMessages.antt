@@ -6,17 +6,17 @@ use Rattle.std.proofs.lemmas.Bool.{leb-true}
 use Rattle.std.proofs.lemmas.List.{length-append}
 use Rattle.pqformat.specs.Fields.{int32, int64, string}
 use Rattle.pqformat.proofs.Numbers.{length-int32, length-int64}
-use Rattle.logical.specs.declared.logical.Logical.{Logical}
-use Rattle.logical.specs.Logical.{FitsLogical, spell_logical}
+use Rattle.pgoutput.specs.declared.logical.Logical.{Logical}
+use Rattle.pgoutput.specs.Logical.{FitsLogical, spell_logical}
 use Rattle.pgoutput.specs.Message.{content}
-use Rattle.stream.specs.Items.{IsShortMessage}
+use Rattle.pgoutput.specs.Items.{IsShortMessage}
 use Rattle.tables.specs.declared.message.TheConstants.{MAX_PREFIX_LENGTH, MAX_CONTENT_LENGTH}
 use Rattle.tables.specs.declared.message.Message.{Message}
 use Rattle.tables.specs.declared.change.Change.{Change}
 use Rattle.tables.specs.declared.change.Change.TheVariants as changes
 use Rattle.tables.specs.Kinds.{has_no_zero}
 use Rattle.tables.specs.Tables.{is_prefix}
-use Rattle.published_tables.specs.Published.{PublicationSet}
+use Rattle.publication_config.specs.Published.{PublicationSet}
 use Rattle.publication.specs.Logged.{IsNoteAt, change_message, fits_log, logged_message, note_message, told_of}
 use Rattle.publication.specs.Projection.{AreValues, MessageFits}
 use Rattle.publication.specs.Selection.{FitTables}

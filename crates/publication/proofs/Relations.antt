@@ -10,15 +10,15 @@ use Rattle.std.proofs.lemmas.List.{length-append, length-map}
 use Rattle.std.proofs.lemmas.List.Concat.{flat_map-cons}
 use Rattle.pqformat.specs.Fields.{int16, int32, string}
 use Rattle.pqformat.proofs.Numbers.{length-int16, length-int32}
-use Rattle.logical.specs.declared.logical.Logical.TheVariants as logical
+use Rattle.pgoutput.specs.declared.logical.Logical.TheVariants as logical
 use Rattle.pgoutput.specs.Relation.{column, identity_letter, FitsName, FitsColumn}
-use Rattle.logical.specs.Logical.{FitsLogical}
+use Rattle.pgoutput.specs.Logical.{FitsLogical}
 use Rattle.tables.specs.declared.identity.Identity.{Identity}
 use Rattle.tables.specs.declared.column.Column.{Column}
 use Rattle.tables.specs.declared.table.Table.{Table}
 use Rattle.tables.specs.Tables.{table_of}
-use Rattle.stream.specs.Items.{IsShortMessage, FitsRelationOf}
-use Rattle.published_tables.specs.Published.{PublicationSet}
+use Rattle.pgoutput.specs.Items.{IsShortMessage, FitsRelationOf}
+use Rattle.publication_config.specs.Published.{PublicationSet}
 use Rattle.row_messages.specs.Relations.{relation_of, relation_column, FitsTable}
 use Rattle.publication.specs.Selection.{relation, selected_table, FitTables}
 use Rattle.row_messages.proofs.Values.{type_fits}

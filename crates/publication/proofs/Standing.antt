@@ -7,15 +7,15 @@ use Rattle.std.proofs.lemmas.List.{length-append}
 use Rattle.pqformat.specs.Fields.{int32}
 use Rattle.pqformat.proofs.Numbers.{length-int32}
 use Rattle.std.specs.Option.{option_map}
-use Rattle.logical.specs.declared.logical.Logical.{Logical}
-use Rattle.logical.specs.declared.logical.Logical.TheVariants as logical
+use Rattle.pgoutput.specs.declared.logical.Logical.{Logical}
+use Rattle.pgoutput.specs.declared.logical.Logical.TheVariants as logical
 use Rattle.pgoutput.specs.declared.old_tuple.OldTuple.{OldTuple}
 use Rattle.pgoutput.specs.declared.old_tuple.OldTuple.TheVariants.{Key, Full}
 use Rattle.pgoutput.specs.OldTuple.{old_tuple}
 use Rattle.pgoutput.specs.Update.{old_if_any}
 use Rattle.tables.specs.declared.identity.Identity.{Identity}
 use Rattle.tables.specs.declared.identity.Identity.TheVariants as identities
-use Rattle.logical.specs.Logical.{spell_logical}
+use Rattle.pgoutput.specs.Logical.{spell_logical}
 use Rattle.pgoutput.specs.Tuple.{tuple}
 use Rattle.tables.specs.declared.row.TheConstants.{MAX_ROW_LENGTH}
 use Rattle.tables.specs.declared.table.Table.{Table}
@@ -27,7 +27,7 @@ use Rattle.tables.specs.declared.change.Change.TheVariants as changes
 use Rattle.tables.specs.Refs.{IsLarge}
 use Rattle.tables.specs.Spelling.{row_length}
 use Rattle.tables.specs.Tables.{fits_table, table_of}
-use Rattle.published_tables.specs.Published.{PublicationSet}
+use Rattle.publication_config.specs.Published.{PublicationSet}
 use Rattle.row_messages.specs.Messages.{delete_message, insert_message, stands_in, update_message}
 use Rattle.publication.specs.Projection.{message_of_update, only_if, stands, AreValues, MessageFits}
 use Rattle.row_messages.specs.Relations.{FitsTable, listed_items, table_as_published}

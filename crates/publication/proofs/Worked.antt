@@ -3,8 +3,8 @@ use Rattle.std.proofs.Common.{◌≡◌, ℕ, pos, true, false, List, [], ◌∷
 use Rattle.std.specs.Prelude.{codes, map, option_to_list}
 use Rattle.std.specs.Fmt.{digits}
 use Rattle.pqformat.specs.Fields.{int16, int32, int64}
-use Rattle.logical.specs.declared.logical.Logical.{Logical}
-use Rattle.logical.specs.declared.logical.Logical.TheVariants as logical
+use Rattle.pgoutput.specs.declared.logical.Logical.{Logical}
+use Rattle.pgoutput.specs.declared.logical.Logical.TheVariants as logical
 use Rattle.pgoutput.specs.declared.tuple.Cell.{Cell}
 use Rattle.pgoutput.specs.declared.tuple.Cell.TheVariants.{Null, Text}
 use Rattle.pgoutput.specs.declared.old_tuple.OldTuple.{OldTuple}
@@ -16,8 +16,8 @@ use Rattle.tables.specs.declared.kinds.Value.TheVariants as values
 use Rattle.tables.specs.declared.table.Table.{Table}
 use Rattle.tables.specs.declared.change.Change.TheVariants as changes
 use Rattle.tables.specs.Tables.{item_table, table_named}
-use Rattle.published_tables.specs.declared.publication.Publication.{Publication}
-use Rattle.published_tables.specs.Published.{PublicationSet, all_operations, published_whole, publications_named}
+use Rattle.publication_config.specs.declared.publication.Publication.{Publication}
+use Rattle.publication_config.specs.Published.{PublicationSet, all_operations, published_whole, publications_named}
 use Rattle.row_messages.specs.Messages.{delete_message, update_message}
 use Rattle.publication.specs.Projection.{message, message_of_update}
 

@@ -3,4 +3,7 @@ pub mod Selection
 pub mod Read
 pub mod Projection
 pub mod Logged
-pub use Rattle.published_tables.specs.Published
+pub use Rattle.publication_config.specs.Published
+pub mod Choosing
+pub use Rattle.publication_config.specs.Config
+pub use Rattle.publication_config.specs.Faults

@@ -1,17 +1,17 @@
 -- What a message of the log becomes in a stream that asks for messages (PostgreSQL 15, 55.5, the option `messages`). Publications, filters
 -- and column lists don't touch it.
 use Rattle.std.specs.Prelude.{◌≡◌, ℕ, Bool, true, false, ◌&&◌, length, nat_le, Option, Some, None, if◌then◌else◌}
-use Rattle.logical.specs.declared.logical.Logical.{Logical}
-use Rattle.logical.specs.declared.logical.Logical.TheVariants as logical
+use Rattle.pgoutput.specs.declared.logical.Logical.{Logical}
+use Rattle.pgoutput.specs.declared.logical.Logical.TheVariants as logical
 use Rattle.pgoutput.specs.declared.message.Message.{Message as Told}
-use Rattle.logical.specs.Logical.{FitsLogical}
-use Rattle.stream.specs.Items.{IsShortMessage}
+use Rattle.pgoutput.specs.Logical.{FitsLogical}
+use Rattle.pgoutput.specs.Items.{IsShortMessage}
 use Rattle.tables.specs.declared.message.TheConstants.{MAX_CONTENT_LENGTH}
 use Rattle.tables.specs.declared.message.Message.{Message}
 use Rattle.tables.specs.declared.change.Change.{Change}
 use Rattle.tables.specs.declared.change.Change.TheVariants as changes
 use Rattle.tables.specs.Tables.{is_prefix}
-use Rattle.published_tables.specs.Published.{PublicationSet}
+use Rattle.publication_config.specs.Published.{PublicationSet}
 use Rattle.publication.specs.Projection.{message}
 
 -- whether a message may stand in the log

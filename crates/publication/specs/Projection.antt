@@ -2,9 +2,9 @@
 use Rattle.std.specs.Prelude.{◌≡◌, ◌&&◌, ◌==◌, ℕ, Bool, true, false, not, List, [], length, filter, nat_le, is_some, Option, Some, None, IsSome, option_map, option_and_then, if◌then◌else◌}
 use Rattle.std.specs.List.{list_all, list_any, AllByRecursion}
 use Rattle.std.specs.Str.{is_utf8}
-use Rattle.logical.specs.declared.logical.Logical.{Logical}
-use Rattle.logical.specs.declared.logical.Logical.TheVariants as logical
-use Rattle.logical.specs.Logical.{FitsLogical}
+use Rattle.pgoutput.specs.declared.logical.Logical.{Logical}
+use Rattle.pgoutput.specs.declared.logical.Logical.TheVariants as logical
+use Rattle.pgoutput.specs.Logical.{FitsLogical}
 use Rattle.tables.specs.declared.change_body.TheConstants.{MAX_TRUNCATED}
 use Rattle.tables.specs.declared.kinds.Value.{Value}
 use Rattle.tables.specs.declared.table.Table.{Table}
@@ -13,10 +13,10 @@ use Rattle.tables.specs.declared.change.Change.TheVariants as changes
 use Rattle.tables.specs.Tables.{repeats}
 use Rattle.tables.specs.Kinds.{IsValue}
 use Rattle.tables.specs.Tables.{table_of}
-use Rattle.stream.specs.Items.{tables_of, IsShortMessage, IsOfChange, FitsRelationOf}
-use Rattle.published_tables.specs.declared.operations.Operation.{Operation}
-use Rattle.published_tables.specs.declared.operations.Operation.TheVariants.{Insert, Update, Delete, Truncate}
-use Rattle.published_tables.specs.Published.{PublicationSet, has, publishes}
+use Rattle.pgoutput.specs.Items.{tables_of, IsShortMessage, IsOfChange, FitsRelationOf}
+use Rattle.publication_config.specs.declared.operations.Operation.{Operation}
+use Rattle.publication_config.specs.declared.operations.Operation.TheVariants.{Insert, Update, Delete, Truncate}
+use Rattle.publication_config.specs.Published.{PublicationSet, has, publishes}
 use Rattle.publication.specs.Publications.{passes_in}
 use Rattle.row_messages.specs.Relations.{listed_items}
 use Rattle.row_messages.specs.Messages.{stands_in, insert_message, update_message, delete_message}

@@ -4,12 +4,12 @@ use Rattle.std.specs.List.{list_any}
 use Rattle.tables.specs.declared.kinds.Value.{Value}
 use Rattle.conditions.specs.Conditions.{Condition}
 use Rattle.conditions.specs.Truth.{is_true, truth}
-use Rattle.published_tables.specs.declared.operations.Operation.{Operation}
-use Rattle.published_tables.specs.declared.published_table.PublishedTable.{PublishedTable}
-use Rattle.published_tables.specs.declared.publication.Publication.{Publication}
-use Rattle.published_tables.specs.Published.{publishes}
+use Rattle.publication_config.specs.declared.operations.Operation.{Operation}
+use Rattle.publication_config.specs.declared.published_table.PublishedTable.{PublishedTable}
+use Rattle.publication_config.specs.declared.publication.Publication.{Publication}
+use Rattle.publication_config.specs.Published.{publishes}
 -- for whoever tells of publications, also in the value of a type
-pub use Rattle.published_tables.specs.Published.{PublicationSet, condition_code}
+pub use Rattle.publication_config.specs.Published.{PublicationSet, condition_code}
 
 -- There is no filter, or it is true of the row.
 abbrev pub lets_pass : Option Condition → List Value → Bool

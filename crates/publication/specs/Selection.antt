@@ -6,9 +6,9 @@ use Rattle.pgoutput.specs.declared.relation.Identity.TheVariants as told
 use Rattle.tables.specs.declared.table.Table.{Table}
 use Rattle.tables.specs.Tables.{table_of}
 use Rattle.row_messages.specs.Relations.{FitsTable, relation_of, table_as_published}
-use Rattle.published_tables.specs.declared.publication.Publication.{Publication}
-use Rattle.published_tables.specs.declared.published_table.PublishedTable.{PublishedTable}
-use Rattle.published_tables.specs.Published.{PublicationSet, has, table_in}
+use Rattle.publication_config.specs.declared.publication.Publication.{Publication}
+use Rattle.publication_config.specs.declared.published_table.PublishedTable.{PublishedTable}
+use Rattle.publication_config.specs.Published.{PublicationSet, has, table_in}
 
 -- whether some publication of the selection has the table of this OID
 abbrev pub has_table : PublicationSet → ℕ → Bool

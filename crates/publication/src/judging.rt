@@ -8,7 +8,7 @@ ghost use Rattle.tables.specs.Tables.{fits_table};
 ghost use Rattle.tables.specs.declared.change.Change.{Change as Changed};
 ghost use Rattle.tables.specs.declared.kinds.Value.{Value as Datum};
 ghost use Rattle.tables.specs.declared.message.Message.{Message as Held};
-ghost use Rattle.published_tables.specs.declared.operations.Operation.{Operation};
+ghost use Rattle.publication_config.specs.declared.operations.Operation.{Operation};
 ghost use Rattle.publication.specs.Logged.{change_message, logged_message};
 ghost use Rattle.row_messages.specs.Messages.{stands_in};
 ghost use Rattle.publication.specs.Projection.{is_published, message, passes};
@@ -21,7 +21,7 @@ use crate::logged::fits_log;
 use crate::row_reading::{last_row, oid_and_row, one_row};
 use crate::selection::{Selection, may_be_emptied};
 use pqformat::Cursor;
-use published_tables::Operation;
+use publication_config::Operation;
 use tables::{
     DELETE_TAG, INSERT_TAG, Identity, MAX_TRUNCATED, MESSAGE_TAG, RowRef, TRUNCATE_TAG, Table,
     UPDATE_TAG, lend_message, lend_oids,

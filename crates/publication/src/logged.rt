@@ -3,9 +3,9 @@
 
 ghost use Rattle.std.specs.Prelude.{◌≡◌, ◌+◌, ◌≤◌, [], IfOk, IfSome, Ok, OnSome, Some, length, true};
 ghost use Rattle.std.specs.Str.{is_utf8};
-ghost use Rattle.logical.specs.Logical.{spell_logical};
+ghost use Rattle.pgoutput.specs.Logical.{spell_logical};
 ghost use Rattle.pgoutput.specs.Message.{message_flags};
-ghost use Rattle.logical.specs.declared.logical.Logical.{Logical as Meant};
+ghost use Rattle.pgoutput.specs.declared.logical.Logical.{Logical as Meant};
 ghost use Rattle.tables.specs.Reading.{SpellsBody, change_tagged, message_at};
 ghost use Rattle.tables.specs.Refs.{message_of};
 ghost use Rattle.tables.specs.declared.change.Change.{Change as Changed};
@@ -16,8 +16,7 @@ ghost use Rattle.row_messages.specs.Spelling.{HasRoomFor, IsPut, IsWritten};
 ghost use Rattle.publication.specs.Read.{IsReadWhole};
 
 use crate::selection::Selection;
-use logical::Logical;
-use pgoutput::{MESSAGE, Message as Told, message_flags};
+use pgoutput::{Logical, MESSAGE, Message as Told, message_flags};
 use pqformat::{Items, write_byte, write_bytes, write_int32, write_int64};
 use row_messages::MAX_MESSAGE_LENGTH;
 use std::alloc::AllocError;

@@ -1,15 +1,14 @@
 //! The message of an update, by which of its two rows pass, and that of tables that were emptied.
 
 ghost use Rattle.std.specs.Prelude.{◌≡◌, ◌<◌, ◌^◌, IfOk, Some, length};
-ghost use Rattle.logical.specs.Logical.{spell_logical};
-ghost use Rattle.logical.specs.declared.logical.Logical.{Logical as Told};
+ghost use Rattle.pgoutput.specs.Logical.{spell_logical};
+ghost use Rattle.pgoutput.specs.declared.logical.Logical.{Logical as Told};
 ghost use Rattle.pqformat.specs.Writing.{FitsRoom};
 ghost use Rattle.row_messages.specs.Relations.{listed_items, table_as_published};
 ghost use Rattle.row_messages.specs.Spelling.{IsWritten};
 ghost use Rattle.publication.specs.Projection.{message_of_update, truncate_message};
 
-use logical::Logical;
-use pgoutput::{Truncate, TruncateOptions};
+use pgoutput::{Logical, Truncate, TruncateOptions};
 use pqformat::Items;
 use row_messages::{
     deletion, insertion, put_deletion, put_insertion, put_replacement, replacement,

@@ -4,7 +4,7 @@ ghost use Rattle.std.specs.Prelude.{◌≡◌};
 ghost use Rattle.std.specs.List.{list_any};
 ghost use Rattle.publication.specs.Publications.{admits, lets_pass, passes_in};
 
-use published_tables::{Operation, Publication, PublishedTable};
+use publication_config::{Operation, Publication, PublishedTable};
 use tables::RowRef;
 
 /// Whether the publication publishes the operation for the table of this OID, and lets the row pass.

@@ -1,6 +1,6 @@
 //! The message that a change becomes.
 
-use logical::Logical;
+use pgoutput::Logical;
 
 /// What a change becomes: nothing, where it isn't published, or one message.
 #[derive(Debug, Drop)]

@@ -3,7 +3,7 @@
 
 ghost use Rattle.std.specs.Prelude.{◌≡◌, ◌≤◌, length};
 ghost use Rattle.std.specs.Option.{option_map};
-ghost use Rattle.logical.specs.declared.logical.Logical.TheVariants as logical;
+ghost use Rattle.pgoutput.specs.declared.logical.Logical.TheVariants as logical;
 ghost use Rattle.row_messages.specs.Relations.{relation_of};
 ghost use Rattle.row_messages.specs.Spelling.{IsPut};
 ghost use Rattle.publication.specs.Selection.{selected_table};

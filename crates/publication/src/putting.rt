@@ -4,7 +4,7 @@ ghost use Rattle.std.specs.Prelude.{◌≡◌, ◌+◌, ◌<◌, ◌≤◌, ◌^
 ghost use Rattle.tables.specs.Reading.{SpellsBody, change_tagged, insert_at, update_at};
 ghost use Rattle.tables.specs.declared.change.Change.{Change as Changed};
 ghost use Rattle.tables.specs.declared.kinds.Value.{Value as Datum};
-ghost use Rattle.logical.specs.declared.logical.Logical.{Logical};
+ghost use Rattle.pgoutput.specs.declared.logical.Logical.{Logical};
 ghost use Rattle.publication.specs.Logged.{change_message};
 ghost use Rattle.publication.specs.Projection.{MessageFits, message};
 ghost use Rattle.row_messages.specs.Spelling.{HasRoomFor, IsPut, IsWritten, room_for};
@@ -14,7 +14,7 @@ ghost use Rattle.tables.specs.Spelling.{row_length};
 use crate::messages::put_update;
 use crate::row_reading::{one_row, two_rows};
 use crate::selection::Selection;
-use published_tables::Operation;
+use publication_config::Operation;
 use row_messages::{put_deletion, put_insertion, room_for};
 use tables::{DELETE_TAG, INSERT_TAG, MESSAGE_TAG, RowRef, TRUNCATE_TAG, UPDATE_TAG};
 

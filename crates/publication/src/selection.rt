@@ -3,16 +3,16 @@
 ghost use Rattle.std.specs.Prelude.{◌≡◌, ◌++◌, ◌==◌, [], IfOk, IfSome, OnSome, option_map, true, false, filter, drop, is_some, length};
 ghost use Rattle.std.specs.Option.{option_copied};
 ghost use Rattle.std.specs.List.{AllByRecursion, list_all, list_any};
-ghost use Rattle.logical.specs.declared.logical.Logical.TheVariants as logical;
-ghost use Rattle.logical.specs.Logical.{FitsLogical};
+ghost use Rattle.pgoutput.specs.declared.logical.Logical.TheVariants as logical;
+ghost use Rattle.pgoutput.specs.Logical.{FitsLogical};
 ghost use Rattle.tables.specs.Kinds.{IsValue};
 ghost use Rattle.tables.specs.Tables.{table_of, oids_of, repeats};
 ghost use Rattle.tables.specs.declared.change.Change.{Change};
-ghost use Rattle.stream.specs.Items.{IsShortMessage};
-ghost use Rattle.published_tables.specs.Published.{has};
+ghost use Rattle.pgoutput.specs.Items.{IsShortMessage};
+ghost use Rattle.publication_config.specs.Published.{has};
 ghost use Rattle.row_messages.specs.Relations.{relation_of, FitsTable};
 ghost use Rattle.publication.specs.Selection.{has_table, list_by, selected_oids, selected_table, whole_table};
-ghost use Rattle.published_tables.specs.declared.operations.Operation.{Operation};
+ghost use Rattle.publication_config.specs.declared.operations.Operation.{Operation};
 ghost use Rattle.publication.specs.Logged.{change_message};
 ghost use Rattle.row_messages.specs.Messages.{stands_in};
 ghost use Rattle.publication.specs.Projection.{is_published, may_be_emptied, message, passes, projection_of, AreValues, FitsProjected, MessageFits};
@@ -20,9 +20,9 @@ ghost use Rattle.publication.specs.Projection.{is_published, may_be_emptied, mes
 use crate::messages::{truncation, update};
 use crate::passing::passes;
 use crate::projection::Projected;
-use logical::Logical;
+use pgoutput::Logical;
 use pqformat::Items;
-use published_tables::{Operation, Publication};
+use publication_config::{Operation, Publication};
 use row_messages::{deletion, insertion, relation_message};
 use std::alloc::{AllocError, Global};
 use std::marker::Model;
@@ -49,7 +49,7 @@ impl Model for Selection {
     ghost use Rattle.std.specs.List.{AllByRecursion};
     ghost use Rattle.std.specs.Coded.{codes};
     ghost use Rattle.tables.specs.Tables.{oids_of, repeats};
-    ghost use Rattle.published_tables.specs.Published.{PublicationSet, condition_code};
+    ghost use Rattle.publication_config.specs.Published.{PublicationSet, condition_code};
     ghost use Rattle.row_messages.specs.Relations.{FitsTable};
     ghost use Rattle.publication.specs.Selection.{selected_oids};
 

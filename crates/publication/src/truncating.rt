@@ -4,11 +4,11 @@
 ghost use Rattle.std.specs.Prelude.{◌≡◌, ◌+◌, ◌*◌, ◌≤◌, ◌<◌, ◌^◌, [], ℕ, List, Ok, IfSome, false, filter, length, take};
 ghost use Rattle.std.specs.List.{flat_map};
 ghost use Rattle.pqformat.specs.Fields.{int32};
-ghost use Rattle.logical.specs.Logical.{spell_logical};
-ghost use Rattle.logical.specs.declared.logical.Logical.TheVariants as logical;
+ghost use Rattle.pgoutput.specs.Logical.{spell_logical};
+ghost use Rattle.pgoutput.specs.declared.logical.Logical.TheVariants as logical;
 ghost use Rattle.tables.specs.Reading.{oids_at};
 ghost use Rattle.tables.specs.declared.change.Change.{Change as Changed};
-ghost use Rattle.published_tables.specs.declared.operations.Operation.{Operation};
+ghost use Rattle.publication_config.specs.declared.operations.Operation.{Operation};
 ghost use Rattle.publication.specs.Projection.{is_published, message};
 ghost use Rattle.pqformat.specs.Writing.{FitsRoom, Writes};
 ghost use Rattle.row_messages.specs.Spelling.{HasRoomFor, IsWritten};
@@ -17,7 +17,7 @@ ghost use Rattle.publication.specs.Read.{IsReadWhole};
 use crate::selection::{Selection, may_be_emptied};
 use pgoutput::{NO_OPTIONS, TRUNCATE};
 use pqformat::{write_byte, write_int32};
-use published_tables::Operation;
+use publication_config::Operation;
 use tables::{MAX_TRUNCATED, lend_oids};
 
 impl Selection {

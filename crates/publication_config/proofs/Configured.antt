@@ -9,7 +9,7 @@ use Rattle.publication_config.specs.declared.config_fault.Refusal.TheVariants as
 use Rattle.publication_config.specs.declared.fault.PubFault.{PubFault}
 use Rattle.publication_config.specs.declared.fault.PubFault.TheVariants as faults
 use Rattle.publication_config.specs.Config.{Configures, ReadsPublications, configured_by, fault_of, publications_in}
-use Rattle.published_tables.specs.Published.{PublicationSet}
+use Rattle.publication_config.specs.Published.{PublicationSet}
 
 pub refused_so : (refusal : Refusal) (read : Result PublicationSet PubFault) → read ≡ Err (fault_of refusal) → ReadsPublications (Err (fault_of refusal)) read
 refused_so (refusals.Misfit misfit) read is = is

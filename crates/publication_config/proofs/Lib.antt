@@ -1,2 +1,4 @@
 pub mod Configured
 pub mod Reading
+pub mod Filtering
+pub mod Naming

@@ -7,9 +7,9 @@ use Rattle.toml.specs.declared.value.Value.{Value}
 use Rattle.pqformat.specs.Steps.{◌>>=◌}
 use Rattle.tables.specs.declared.table.Table.{Table}
 use Rattle.publication_config.specs.declared.config_fault.Refusal.{Refusal}
-use Rattle.published_tables.specs.declared.operations.Operations.{Operations}
-use Rattle.published_tables.specs.declared.publication.Publication.{Publication}
-use Rattle.published_tables.specs.declared.published_table.PublishedTable.{PublishedTable}
+use Rattle.publication_config.specs.declared.operations.Operations.{Operations}
+use Rattle.publication_config.specs.declared.publication.Publication.{Publication}
+use Rattle.publication_config.specs.declared.published_table.PublishedTable.{PublishedTable}
 use Rattle.publication_config.specs.Config.{publication_in, publications_behind, published_behind, published_in}
 
 front : (values : List Value) (i : ℕ) (v : Value) → i < length values → v ≡ get_or values i v → items_view (drop i values) ≡ item (view v) (items_view (drop (i + 1) values))

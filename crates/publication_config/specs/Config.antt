@@ -30,12 +30,12 @@ use Rattle.publication_config.specs.declared.config_publication.Reach.{Reach as 
 use Rattle.publication_config.specs.declared.config_publication.Reach.TheVariants as founds
 use Rattle.publication_config.specs.declared.fault.PubFault.{PubFault}
 use Rattle.publication_config.specs.declared.fault.PubFault.TheVariants as faults
-use Rattle.published_tables.specs.declared.operations.Operation.{Operation}
-use Rattle.published_tables.specs.declared.operations.Operation.TheVariants.{Insert, Update, Delete, Truncate}
-use Rattle.published_tables.specs.declared.operations.Operations.{Operations}
-use Rattle.published_tables.specs.declared.publication.Publication.{Publication}
-use Rattle.published_tables.specs.declared.published_table.PublishedTable.{PublishedTable}
-use Rattle.published_tables.specs.Published.{PublicationSet, all_operations, is_identity, is_listed, published_whole, with_operation}
+use Rattle.publication_config.specs.declared.operations.Operation.{Operation}
+use Rattle.publication_config.specs.declared.operations.Operation.TheVariants.{Insert, Update, Delete, Truncate}
+use Rattle.publication_config.specs.declared.operations.Operations.{Operations}
+use Rattle.publication_config.specs.declared.publication.Publication.{Publication}
+use Rattle.publication_config.specs.declared.published_table.PublishedTable.{PublishedTable}
+use Rattle.publication_config.specs.Published.{PublicationSet, all_operations, is_identity, is_listed, published_whole, with_operation}
 
 -- what reading a part of a configuration answers, memory apart
 abbrev pub Reads : {X : Type 0} → Result X Unread → Result X Refusal → Type 0

@@ -7,9 +7,9 @@ ghost use Rattle.publication_config.specs.Config.{Configures, Reads, ReadsPublic
 use crate::config_fault::{Misfit, Refusal, Unread};
 use crate::config_publication::publication_in;
 use crate::fault::PubFault;
+use crate::publication::Publication;
 use catalog::{Catalog, CatalogFault, read_document};
 use pqformat::Items;
-use published_tables::Publication;
 use std::alloc::Global;
 use toml::Value;
 

@@ -11,9 +11,10 @@ ghost use Rattle.publication_config.specs.declared.config_fault.Unread.TheVarian
 
 use crate::config_fault::{Misfit, Place, Refusal, TableMember, Unread};
 use crate::judging::judged;
+use crate::operations::Operations;
+use crate::published_table::PublishedTable;
 use catalog::{Catalog, is_more_than, names_in};
 use pqformat::{Items, Text};
-use published_tables::{Operations, PublishedTable};
 use rowfilter::{Filter, FilterFault, parse};
 use std::alloc::{AllocError, Global};
 use tables::{Column, Table};

@@ -4,7 +4,9 @@ ghost use Rattle.std.specs.Prelude.{◌≡◌, option_copied};
 ghost use Rattle.publication_config.specs.Config.{Reads, filter_leaves_identity, identity_fault, judged_table, lacks_identity, leaves_identity};
 
 use crate::config_fault::{Place, Refusal, Unread};
-use published_tables::{Operations, PublishedTable, is_in_identity, is_listed};
+use crate::identity::is_in_identity;
+use crate::operations::Operations;
+use crate::published_table::{PublishedTable, is_listed};
 use rowfilter::Filter;
 use tables::{Identity, Table};
 

@@ -2,13 +2,12 @@
 
 use copyboth::{ServerBody, read_server};
 use frames::{Back, FrameFault, read_back};
-use logical::read_logical;
-use pgoutput::OutFault;
+use message_lines::render;
+use pgoutput::{OutFault, read_logical};
 use replcmd::write_position;
 use std::alloc::Global;
 use std::io;
 use std::io::{ErrorKind, Write};
-use text_lines::render;
 
 /// A connection's name and a colon, and behind it a line for each frame that one start of its sender produced: the position that it
 /// carries, and its message, or that it is a keepalive. What was produced of a last frame is told by its length.

@@ -7,10 +7,10 @@ use Rattle.replcmd.specs.declared.token.Token.{Token}
 use Rattle.replcmd.specs.declared.token.Token.TheVariants.{Word, Quoted, Value, Mark, Unclosed}
 use Rattle.replcmd.specs.declared.token.TheConstants.{NAME_QUOTE, VALUE_QUOTE}
 use Rattle.replcmd.specs.Tokens.{is_blank, is_mark, is_plain, spelling_of_token, Each, IsWhole, StartsWith, Spells}
-use Rattle.quoting.specs.Quoting.{begins, quoted_at}
+use Rattle.pqformat.specs.Quoting.{begins, quoted_at}
 use Rattle.replcmd.specs.Lexing.{after_blanks, word_of, after_word, closed_token, token_from, token_at, Lexes}
 use Rattle.replcmd.proofs.Pieces.{BlanksTaken, blanks_take, blanks_end, blanks_again, word_takes, word_again}
-use Rattle.quoting.proofs.Quoting.{if_true, if_false, found, whole_takes, whole_again}
+use Rattle.pqformat.proofs.Quoting.{if_true, if_false, found, whole_takes, whole_again}
 
 -- ---- tokens
 

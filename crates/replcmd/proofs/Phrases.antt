@@ -14,7 +14,7 @@ use Rattle.replcmd.specs.Words.{lower, is_keyword}
 use Rattle.replcmd.specs.Grammar.{Part, Keyword, Named, Quote, Sign, IsEnd, Follows, IsEnding, Bare, NoExport, NoSnapshot}
 use Rattle.replcmd.specs.Commands.{ending_at, ending_from, if_snapshot, other_option, plugin_at, slot_bracket_at, snapshot_at, snapshot_value_at}
 use Rattle.replcmd.specs.Reading.{◌>>=◌, name_at, value_at, past_mark, past_word, verb_of, verb_at}
-use Rattle.quoting.proofs.Quoting.{if_true}
+use Rattle.pqformat.proofs.Quoting.{if_true}
 use Rattle.replcmd.proofs.Lists.{found, same_found, bind_ok}
 use Rattle.replcmd.proofs.Options.{sign_front}
 use Rattle.replcmd.proofs.Readers.{bytes_same, same_bytes, name_follows, name_reads, value_follows, passed, mark_is, mark_stays}

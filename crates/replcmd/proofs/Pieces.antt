@@ -1,7 +1,7 @@
 -- The pieces of which tokens are made: blanks and words, each as it is read and as it is spelled.
 use Rattle.std.proofs.Common.{◌≡◌, ℕ, Bool, true, false, cond, List, [], ◌∷◌, ◌++◌, refl, ap, ◌∙◌}
-use Rattle.quoting.specs.Quoting.{begins}
-use Rattle.quoting.proofs.Quoting.{if_true, if_false}
+use Rattle.pqformat.specs.Quoting.{begins}
+use Rattle.pqformat.proofs.Quoting.{if_true, if_false}
 use Rattle.replcmd.specs.Tokens.{is_blank, is_plain, Each}
 use Rattle.replcmd.specs.Lexing.{after_blanks, word_of, after_word}
 

@@ -14,7 +14,7 @@ use Rattle.replcmd.specs.Words.{IsName}
 use Rattle.replcmd.specs.Publications.{SpellsNames}
 use Rattle.replcmd.specs.Reading.{◌>>=◌, name_of, comma_at, front_name, more_names, names_of, separated_items}
 use Rattle.replcmd.proofs.Pieces.{blanks_take, blanks_again}
-use Rattle.quoting.proofs.Quoting.{if_true, if_false}
+use Rattle.pqformat.proofs.Quoting.{if_true, if_false}
 use Rattle.replcmd.proofs.Lexemes.{token_found, token_takes, token_again, token_smaller}
 use Rattle.replcmd.proofs.Lists.{found, same_found, bind_ok, Shortens, Lists, lists_take, lists_again}
 use Rattle.replcmd.proofs.Readers.{name_is, is_name}

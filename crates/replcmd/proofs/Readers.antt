@@ -13,7 +13,7 @@ use Rattle.replcmd.specs.Position.{SpellsPosition}
 use Rattle.replcmd.specs.Words.{lower, is_keyword, is_bare, IsName, is_slot_name}
 use Rattle.replcmd.specs.Grammar.{Part, Keyword, Named, At, IsEnd, Follows}
 use Rattle.replcmd.specs.Reading.{◌>>=◌, name_of, name_at, slot_at, value_at, past_mark, unexpected, keyword_at, nothing_at, end_at, position_of, position_at}
-use Rattle.quoting.proofs.Quoting.{if_true}
+use Rattle.pqformat.proofs.Quoting.{if_true}
 use Rattle.replcmd.proofs.Places.{position_takes, position_again}
 use Rattle.replcmd.proofs.Lists.{found, same_found, bind_ok}
 

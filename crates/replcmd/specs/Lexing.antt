@@ -1,7 +1,7 @@
 -- Reading tokens from the front of a text. A quote that is never closed is a last token of its own, which no command has.
 use Rattle.std.specs.Prelude.{◌≡◌, ℕ, ◌==◌, List, [], ◌∷◌, Option, Some, None, option_map, false, if◌then◌else◌}
 use Rattle.std.specs.Borrow.{Bor}
-use Rattle.quoting.specs.Quoting.{quoted_at}
+use Rattle.pqformat.specs.Quoting.{quoted_at}
 use Rattle.replcmd.specs.declared.token.Token.{Token}
 use Rattle.replcmd.specs.declared.token.Token.TheVariants.{Word, Quoted, Value, Mark, Unclosed}
 use Rattle.replcmd.specs.declared.token.TheConstants.{NAME_QUOTE, VALUE_QUOTE}

@@ -2,7 +2,7 @@
 -- blanks. Which token follows is told of the whole text that is left, so a text spells one list of tokens at most.
 use Rattle.std.specs.Prelude.{◌≡◌, ℕ, ◌==◌, List, [], ◌∷◌, ◌++◌, Bool, true, false, ◌||◌, not}
 use Rattle.std.specs.List.{AllByRecursion}
-use Rattle.quoting.specs.Quoting.{begins, in_quotes}
+use Rattle.pqformat.specs.Quoting.{begins, in_quotes}
 use Rattle.replcmd.specs.declared.token.Token.{Token}
 use Rattle.replcmd.specs.declared.token.Token.TheVariants.{Word, Quoted, Value, Mark, Unclosed}
 use Rattle.replcmd.specs.declared.token.TheConstants.{NAME_QUOTE, VALUE_QUOTE, OPEN, CLOSE, COMMA, SEMICOLON}

@@ -5,11 +5,10 @@ ghost use Rattle.replcmd.specs.declared.token.Token.TheVariants.{Quoted, Value};
 ghost use Rattle.replcmd.specs.Tokens.{is_blank, is_mark, is_plain};
 ghost use Rattle.std.specs.Str.{IsUtf8};
 ghost use Rattle.replcmd.specs.Lexing.{after_blanks, word_of, after_word, closed_token, token_from, token_at, Lexes, lent};
-ghost use Rattle.quoting.specs.Quoting.{quoted_at, lent_text};
+ghost use Rattle.pqformat.specs.Quoting.{quoted_at, lent_text};
 
 use crate::token::{CLOSE, COMMA, NAME_QUOTE, OPEN, SEMICOLON, Token, VALUE_QUOTE};
-use pqformat::Text;
-use quoting::{nothing_of, quoted_bytes};
+use pqformat::{Text, nothing_of, quoted_bytes};
 use std::alloc::{AllocError, Global};
 
 fn is_blank(b: u8) -> bool

@@ -16,7 +16,7 @@ use Rattle.tables.specs.Kinds.{spell_value}
 use Rattle.tables.specs.Spelling.{row_length}
 use Rattle.tables.specs.Tables.{fits_column, fits_table}
 use Rattle.pgoutput.specs.Relation.{FitsName}
-use Rattle.published_tables.specs.Published.{is_listed}
+use Rattle.publication_config.specs.Published.{is_listed}
 use Rattle.row_messages.specs.Relations.{listed_items, table_as_published, FitsTable}
 use Rattle.pgoutput.specs.declared.tuple.Cell.{Cell}
 use Rattle.pgoutput.specs.declared.tuple.Cell.TheVariants as cells

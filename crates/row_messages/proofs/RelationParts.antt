@@ -7,13 +7,13 @@ use Rattle.std.proofs.lemmas.List.{length-append, length-map}
 use Rattle.std.proofs.lemmas.List.Concat.{flat_map-cons}
 use Rattle.pqformat.specs.Fields.{int16, int32, string}
 use Rattle.pgoutput.specs.Relation.{FitsName, column, identity_letter, key_flag}
-use Rattle.logical.specs.Logical.{spell_logical}
-use Rattle.logical.specs.declared.logical.Logical.TheVariants as logical
+use Rattle.pgoutput.specs.Logical.{spell_logical}
+use Rattle.pgoutput.specs.declared.logical.Logical.TheVariants as logical
 use Rattle.pgoutput.specs.declared.relation.TheConstants.{RELATION}
 use Rattle.tables.specs.declared.column.Column.{Column}
 use Rattle.tables.specs.declared.identity.Identity.{Identity}
 use Rattle.tables.specs.declared.table.Table.{Table}
-use Rattle.published_tables.specs.Published.{is_identity, is_listed}
+use Rattle.publication_config.specs.Published.{is_identity, is_listed}
 use Rattle.row_messages.specs.declared.relation.TheConstants.{NO_MODIFIER}
 use Rattle.row_messages.specs.Kinds.{type_oid}
 use Rattle.row_messages.specs.Relations.{identity_of, listed_items, relation_column, relation_of, table_as_published}

@@ -1,7 +1,7 @@
 -- The messages of a row that came, of one that took the place of another, and of one that is gone (PostgreSQL 15, 55.9).
 use Rattle.std.specs.Prelude.{◌&&◌, Bool, List, nat_le, Option, option_map}
-use Rattle.logical.specs.declared.logical.Logical.{Logical}
-use Rattle.logical.specs.declared.logical.Logical.TheVariants as logical
+use Rattle.pgoutput.specs.declared.logical.Logical.{Logical}
+use Rattle.pgoutput.specs.declared.logical.Logical.TheVariants as logical
 use Rattle.tables.specs.declared.row.TheConstants.{MAX_ROW_LENGTH}
 use Rattle.tables.specs.declared.kinds.Value.{Value}
 use Rattle.tables.specs.declared.table.Table.{Table}

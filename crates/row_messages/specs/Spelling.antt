@@ -1,8 +1,8 @@
 -- Messages that are written into a slice that has room.
 use Rattle.std.specs.Prelude.{Option, Some, None, ◌≡◌, ℕ, ◌+◌, ◌<◌, ◌≤◌, ◌^◌, List, length, min, take}
 use Rattle.pqformat.specs.Writing.{Writes}
-use Rattle.logical.specs.declared.logical.Logical.{Logical}
-use Rattle.logical.specs.Logical.{spell_logical}
+use Rattle.pgoutput.specs.declared.logical.Logical.{Logical}
+use Rattle.pgoutput.specs.Logical.{spell_logical}
 use Rattle.row_messages.specs.declared.room.TheConstants.{MAX_ADDED_LENGTH, MAX_MESSAGE_LENGTH}
 
 -- the message at the front of the slice, where there is one

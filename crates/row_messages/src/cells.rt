@@ -10,7 +10,7 @@ ghost use Rattle.row_messages.specs.Tuples.{cell_behind, changes_key, key_tuple_
 use crate::kinds::{cell, is_long, is_same};
 use pgoutput::{Cell, OldTuple};
 use pqformat::Items;
-use published_tables::is_listed;
+use publication_config::is_listed;
 use std::alloc::{AllocError, Global};
 use tables::{Column, Identity, Row, Table, Value};
 

@@ -5,8 +5,7 @@ ghost use Rattle.row_messages.specs.Relations.{listed_items, table_as_published}
 ghost use Rattle.row_messages.specs.Messages.{delete_message, insert_message, update_message};
 
 use crate::cells::{old_of, replaced_of, tuple_behind, tuple_of};
-use logical::Logical;
-use pgoutput::{Delete, Insert, Update};
+use pgoutput::{Delete, Insert, Logical, Update};
 use std::alloc::{AllocError, Global};
 use tables::{Row, Table};
 

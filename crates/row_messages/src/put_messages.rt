@@ -2,8 +2,8 @@
 #![tactic(auto, using(crate::proofs::Written::sizes))]
 
 ghost use Rattle.std.specs.Prelude.{◌≡◌, ◌<◌, ◌^◌, ◌∷◌, ◌++◌, [], Some, length};
-ghost use Rattle.logical.specs.Logical.{spell_logical};
-ghost use Rattle.logical.specs.declared.logical.Logical.{Logical};
+ghost use Rattle.pgoutput.specs.Logical.{spell_logical};
+ghost use Rattle.pgoutput.specs.declared.logical.Logical.{Logical};
 ghost use Rattle.pgoutput.specs.declared.delete.TheConstants.{DELETE};
 ghost use Rattle.pqformat.specs.Fields.{int32};
 ghost use Rattle.pgoutput.specs.Update.{old_if_any};

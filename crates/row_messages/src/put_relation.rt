@@ -4,10 +4,10 @@
 ghost use Rattle.std.specs.Prelude.{◌≡◌, ◌+◌, ◌*◌, ◌<◌, ◌≤◌, ◌^◌, [], length, map};
 ghost use Rattle.std.specs.List.{AllByRecursion, flat_map};
 ghost use Rattle.pqformat.specs.Fields.{string};
-ghost use Rattle.logical.specs.Logical.{spell_logical};
+ghost use Rattle.pgoutput.specs.Logical.{spell_logical};
 ghost use Rattle.pgoutput.specs.Relation.{column, identity_letter, key_flag};
-ghost use Rattle.logical.specs.declared.logical.Logical.TheVariants as logical;
-ghost use Rattle.published_tables.specs.Published.{is_identity};
+ghost use Rattle.pgoutput.specs.declared.logical.Logical.TheVariants as logical;
+ghost use Rattle.publication_config.specs.Published.{is_identity};
 ghost use Rattle.row_messages.specs.Relations.{FitsTable, identity_of, listed_items, relation_column, relation_of, table_as_published};
 ghost use Rattle.pqformat.specs.Writing.{Writes};
 ghost use Rattle.row_messages.specs.Spelling.{HasRoom};
@@ -16,7 +16,7 @@ use crate::kinds::oid_of;
 use crate::relation::NO_MODIFIER;
 use pgoutput::{IDENTITY_DEFAULT, IDENTITY_FULL, IDENTITY_NOTHING, KEY_FLAG, NO_FLAG, RELATION};
 use pqformat::{write_byte, write_bytes, write_int16, write_int32};
-use published_tables::{is_in_identity, is_listed};
+use publication_config::{is_in_identity, is_listed};
 use tables::{Column, Identity, Table};
 
 /// The longest that the Relation tells of one column, in bytes: its flags, a name of 63 bytes with its end, its type and modifier.

@@ -7,7 +7,7 @@ ghost use Rattle.row_messages.specs.Relations.{listed_items, table_as_published,
 use crate::kinds::oid_of;
 use pgoutput::{Column, Identity, Relation};
 use pqformat::Items;
-use published_tables::{is_in_identity, is_listed};
+use publication_config::{is_in_identity, is_listed};
 use std::alloc::{AllocError, Global};
 use tables::Table;
 

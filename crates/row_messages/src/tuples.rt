@@ -14,7 +14,7 @@ ghost use Rattle.tables.specs.declared.kinds.Value.TheVariants as values;
 use crate::kinds::{is_long, is_same, put_cell};
 use pgoutput::{NULL, UNCHANGED};
 use pqformat::{write_byte, write_int16};
-use published_tables::is_listed;
+use publication_config::is_listed;
 use tables::{Column, RowRef, ValueRef};
 
 /// The tuple of the listed columns of a row.

@@ -44,29 +44,32 @@ pub struct BadEvent {
     pub event: Event,
 }
 
-impl Display for BadEvent {
-    fn fmt<W: Write>(&self, f: &mut Formatter<W>) -> Result<(), fmt::Error> {
-        write!(f, "line {}: V1: ", self.line)?;
+impl BadEvent {
+    /// Why, as what stands before the name and after it.
+    fn why(&self) -> (&'static str, &str, &'static str) {
         match &self.event {
             Event::Session(name, SessionStep::Begin) => {
-                write!(f, "transaction {} is in progress", name.as_str())
+                ("transaction ", name.as_str(), " is in progress")
             }
-            Event::Session(name, _) => write!(f, "no transaction {}", name.as_str()),
-            Event::Note(_, _) => write!(f, "no note can be written"),
+            Event::Session(name, _) => ("no transaction ", name.as_str(), ""),
+            Event::Note(_, _) => ("no note can be written", "", ""),
             Event::Connection(name, ConnectionStep::Start(_, _, _)) => {
-                write!(f, "connection {} has a sender already", name.as_str())
+                ("connection ", name.as_str(), " has a sender already")
             }
-            Event::Connection(name, ConnectionStep::Ack) => {
-                write!(
-                    f,
-                    "connection {} has no sender, or no status waits",
-                    name.as_str()
-                )
-            }
-            Event::Connection(name, _) => {
-                write!(f, "connection {} has no sender", name.as_str())
-            }
-            Event::Slot(name) => write!(f, "{} is no name of a slot", name.as_str()),
+            Event::Connection(name, ConnectionStep::Ack) => (
+                "connection ",
+                name.as_str(),
+                " has no sender, or no status waits",
+            ),
+            Event::Connection(name, _) => ("connection ", name.as_str(), " has no sender"),
+            Event::Slot(name) => ("", name.as_str(), " is no name of a slot"),
         }
+    }
+}
+
+impl Display for BadEvent {
+    fn fmt<W: Write>(&self, f: &mut Formatter<W>) -> Result<(), fmt::Error> {
+        let (front, name, rest) = self.why();
+        write!(f, "line {}: V1: {front}{name}{rest}", self.line)
     }
 }

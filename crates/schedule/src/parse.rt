@@ -13,8 +13,13 @@ impl Event {
         let mut fields = Fields::new(line);
         let word = fields.word()?;
         let event = event_of(alloc, word, &mut fields)?;
-        fields.end()?;
-        Ok(event)
+        match fields.end() {
+            Ok(()) => Ok(event),
+            Err(fault) => {
+                drop(event);
+                Err(fault)
+            }
+        }
     }
 }
 

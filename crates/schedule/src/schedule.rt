@@ -43,9 +43,10 @@ impl Schedule {
     }
 
     fn add(&mut self, alloc: Global, line: usize, content: &str) -> Result<(), WorldFault> {
-        let event = Event::parse(alloc, content)?;
         self.lines.reserve(1)?;
-        self.events.push(event)?;
+        self.events.reserve(1)?;
+        let event = Event::parse(alloc, content)?;
+        self.events.push(event).unwrap();
         self.lines.push(line).unwrap();
         Ok(())
     }

@@ -1,8 +1,9 @@
 //! How a step is done beside connections.
 
+use crate::outcome::Done;
+use crate::step::{Steering, Step};
 use hub::{Hub, SteerFault};
 use schedule::{Answer, Event};
-use script_lines::{Done, Steering, Step};
 use sessions::Sessions;
 use shared_log::LogName;
 use slots::SlotName;
@@ -46,7 +47,7 @@ fn steer<L: LogName + SlotName, R: Wait>(
 }
 
 /// Does a session's line under the publisher's lock, and tells streams of its commit or its note.
-pub(crate) fn do_event<L: LogName + SlotName, R: Wait>(
+fn do_event<L: LogName + SlotName, R: Wait>(
     rt: &R,
     hub: &Hub<L>,
     sessions: &mut Sessions,

@@ -1,10 +1,12 @@
 //! Lines from outside: done as they come, and answered one by one.
 
 use crate::done::do_step;
+use crate::fault::ScriptFault;
 use crate::leaving::leave_all;
+use crate::outcome::{Done, answer};
+use crate::step::Step;
 use crate::steps::ScriptEnd;
 use hub::Hub;
-use script_lines::{Done, ScriptFault, Step, answer};
 use sessions::Sessions;
 use shared_log::LogName;
 use slots::SlotName;

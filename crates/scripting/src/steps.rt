@@ -1,9 +1,11 @@
 //! Scripts that steer streams beside what sessions do.
 
 use crate::done::do_step;
+use crate::fault::ScriptFault;
 use crate::leaving::leave_all;
+use crate::numbered_steps::Steps;
+use crate::outcome::{Done, tell};
 use hub::Hub;
-use script_lines::{Done, ScriptFault, Steps, tell};
 use sessions::Sessions;
 use shared_log::LogName;
 use slots::SlotName;

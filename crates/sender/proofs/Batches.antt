@@ -7,7 +7,7 @@ use Rattle.std.specs.Option.{option_map}
 use Rattle.std.proofs.lemmas.Option.{slice_get-get_or, slice_get-map}
 use Rattle.std.specs.Global.{Global}
 use Rattle.std.specs.List.{AllByRecursion}
-use Rattle.stream.proofs.Lists.{all_of_both}
+use Rattle.pgoutput.proofs.Lists.{all_of_both}
 use Rattle.std.specs.declared.sync.Arc.{Arc}
 use Rattle.wal.specs.Records.{shared_records}
 use Rattle.publication.specs.Publications.{PublicationSet}
@@ -21,9 +21,9 @@ use Rattle.reorder.specs.Chunks.{LeavesNoRoom}
 use Rattle.reorder.specs.Taking.{HasTaken, MayCome, promised_changes}
 use Rattle.publication.specs.Selection.{relation}
 use Rattle.pgoutput.specs.declared.relation.Relation.{Relation}
-use Rattle.stream.specs.declared.published.Published.{Published}
-use Rattle.stream.specs.Words.{word_bytes, frames_of}
-use Rattle.stream.specs.Items.{Block, FitsPublished, words_of, item_words, bytes_of_items, relations_sent_by_all, relations_sent_through}
+use Rattle.pgoutput.specs.declared.published.Published.{Published}
+use Rattle.pgoutput.specs.Words.{word_bytes, frames_of}
+use Rattle.pgoutput.specs.Items.{Block, FitsPublished, words_of, item_words, bytes_of_items, relations_sent_by_all, relations_sent_through}
 use Rattle.sender.specs.Published.{published_transactions, published_as, published_from, published_note, has_message}
 use Rattle.sender.specs.Lent.{AreLastOf, LentTransaction, sent_transactions}
 use Rattle.sender.specs.Sending.{SenderState, MayFollow, HasChunks, HasRead, LacksRoom, blocks, published_bytes, published_by_record, sent_by_record, ReadOne, ReadAll, RanOut, OutputUnchanged, AddsPublished}

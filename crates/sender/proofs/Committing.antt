@@ -11,9 +11,9 @@ use Rattle.reorder.specs.Ready.{ReadyState, ready_entries}
 use Rattle.reorder.specs.Settled.{AreLentIn, after_giving_all_back, after_giving_back, ready_chunks}
 use Rattle.reorder.specs.Taking.{HasTaken, ReorderState}
 use Rattle.reorder.proofs.Settling.{taken_settled}
-use Rattle.stream.specs.declared.published.Published.{Published}
-use Rattle.stream.specs.Words.{frames_of}
-use Rattle.stream.specs.Items.{Block, bytes_of_items, relations_sent_through, transaction_words}
+use Rattle.pgoutput.specs.declared.published.Published.{Published}
+use Rattle.pgoutput.specs.Words.{frames_of}
+use Rattle.pgoutput.specs.Items.{Block, bytes_of_items, relations_sent_through, transaction_words}
 use Rattle.sender.specs.Published.{published_with}
 use Rattle.sender.specs.Waiting.{AreSelected, AreWithin, begin_bytes, bytes_behind, changes_bytes, commit_bytes, places, ready_states, sent_behind}
 use Rattle.sender.specs.Outgoing.{Grows, IsOutgoing, Queues, StaysQueued, frames_left, held_behind, held_of, lent_in, lent_of, sent_of, settled_of}

@@ -14,16 +14,16 @@ use Rattle.frames.specs.Frame.{frame}
 use Rattle.frames.specs.declared.copy_data.TheConstants.{COPY_DATA}
 use Rattle.copyboth.specs.XLogData.{xlogdata}
 use Rattle.copyboth.specs.declared.xlogdata.TheConstants.{XLOGDATA}
-use Rattle.logical.specs.declared.logical.Logical.{Logical}
-use Rattle.logical.specs.declared.logical.Logical.TheVariants as logical
+use Rattle.pgoutput.specs.declared.logical.Logical.{Logical}
+use Rattle.pgoutput.specs.declared.logical.Logical.TheVariants as logical
 use Rattle.pgoutput.specs.declared.relation.Relation.{Relation}
-use Rattle.logical.specs.Logical.{spell_logical}
+use Rattle.pgoutput.specs.Logical.{spell_logical}
 use Rattle.publication.specs.Publications.{PublicationSet}
 use Rattle.publication.specs.Selection.{relation}
-use Rattle.stream.specs.declared.published.PublishedChange.{PublishedChange}
-use Rattle.stream.specs.declared.word.Word.{Word}
-use Rattle.stream.specs.Words.{frames_of, word_bytes}
-use Rattle.stream.specs.Items.{changes_words, is_relation_sent, relation_words, relations_due, relations_sent_by, relations_sent_by_all, tables_of, xlogdata_word}
+use Rattle.pgoutput.specs.declared.published.PublishedChange.{PublishedChange}
+use Rattle.pgoutput.specs.declared.word.Word.{Word}
+use Rattle.pgoutput.specs.Words.{frames_of, word_bytes}
+use Rattle.pgoutput.specs.Items.{changes_words, is_relation_sent, relation_words, relations_due, relations_sent_by, relations_sent_by_all, tables_of, xlogdata_word}
 use Rattle.sender.specs.Waiting.{Makes, changes_bytes, frame_head}
 use Rattle.sender.proofs.Heads.{either}
 use Rattle.sender.proofs.Framing.{xlogdata_whole}

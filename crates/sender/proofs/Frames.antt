@@ -14,8 +14,8 @@ use Rattle.reorder.specs.Settled.{AreLentIn, after_giving_all_back, after_giving
 use Rattle.reorder.specs.Taking.{ReorderState}
 use Rattle.reorder.proofs.Filling.{chunks_each_given_back}
 use Rattle.reorder.proofs.Settling.{entries_given_back}
-use Rattle.stream.specs.declared.published.PublishedChange.{PublishedChange}
-use Rattle.stream.specs.Items.{relations_sent_by_all}
+use Rattle.pgoutput.specs.declared.published.PublishedChange.{PublishedChange}
+use Rattle.pgoutput.specs.Items.{relations_sent_by_all}
 use Rattle.sender.specs.Published.{published_changes}
 use Rattle.sender.specs.Waiting.{AreSelected, AreWithin, Makes, bytes_behind, bytes_left, changes_bytes, commit_bytes, left_of, places, ready_states, sent_behind}
 use Rattle.sender.specs.Lent.{LentTransaction}

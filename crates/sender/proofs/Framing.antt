@@ -10,13 +10,13 @@ use Rattle.pqformat.proofs.Numbers.{length-int32, length-int64}
 use Rattle.frames.specs.Frame.{frame}
 use Rattle.copyboth.specs.XLogData.{xlogdata}
 use Rattle.copyboth.specs.Keepalive.{keepalive, ask_byte}
-use Rattle.logical.specs.declared.logical.Logical.{Logical}
-use Rattle.logical.specs.Logical.{spell_logical}
+use Rattle.pgoutput.specs.declared.logical.Logical.{Logical}
+use Rattle.pgoutput.specs.Logical.{spell_logical}
 use Rattle.pgoutput.specs.declared.relation.Relation.{Relation}
-use Rattle.stream.specs.declared.word.Word.{Word}
-use Rattle.stream.specs.declared.published.Published.{Published}
-use Rattle.stream.specs.Words.{word_bytes, frames_of}
-use Rattle.stream.specs.Items.{xlogdata_word, keepalive_word, begin_message, commit_message, changes_words, transaction_words}
+use Rattle.pgoutput.specs.declared.word.Word.{Word}
+use Rattle.pgoutput.specs.declared.published.Published.{Published}
+use Rattle.pgoutput.specs.Words.{word_bytes, frames_of}
+use Rattle.pgoutput.specs.Items.{xlogdata_word, keepalive_word, begin_message, commit_message, changes_words, transaction_words}
 use Rattle.sender.specs.Spelled.{begin_with, commit_with}
 use Rattle.sender.specs.declared.header.Header.{Header}
 

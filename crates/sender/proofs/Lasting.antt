@@ -12,7 +12,7 @@ use Rattle.wal.specs.declared.record.Body.{Body}
 use Rattle.wal.specs.declared.record.Body.TheVariants.{Assign, Change as Changed, AbortSub, Abort, Commit, Note}
 use Rattle.wal.specs.Log.{Transaction, committed_at, committed_from, kept_changes}
 use Rattle.wal.proofs.Laws.{committed_from-append}
-use Rattle.stream.specs.Items.{relations_sent_by_all}
+use Rattle.pgoutput.specs.Items.{relations_sent_by_all}
 use Rattle.reorder.specs.Chunks.{transaction_chunks}
 use Rattle.reorder.specs.Pool.{PoolState}
 use Rattle.reorder.specs.Ready.{ReadyState}

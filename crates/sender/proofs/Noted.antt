@@ -1,8 +1,8 @@
 -- A note comes behind what is held.
 use Rattle.std.proofs.Common.{◌≡◌, ℕ, ℤ, List, [], ◌∷◌, ◌++◌, Option, Some, None, Result, Ok, Err, take, refl, sym, ap, ◌∙◌}
 use Rattle.std.specs.declared.alloc.AllocError.{AllocError}
-use Rattle.logical.specs.declared.logical.Logical.{Logical}
-use Rattle.logical.specs.Logical.{spell_logical}
+use Rattle.pgoutput.specs.declared.logical.Logical.{Logical}
+use Rattle.pgoutput.specs.Logical.{spell_logical}
 use Rattle.frames.specs.Frame.{frame}
 use Rattle.frames.specs.declared.copy_data.TheConstants.{COPY_DATA}
 use Rattle.copyboth.specs.XLogData.{xlogdata}
@@ -12,7 +12,7 @@ use Rattle.publication.specs.Logged.{IsNoteAt, note_message}
 use Rattle.publication.specs.Selection.{relation}
 use Rattle.row_messages.specs.Spelling.{IsPut}
 use Rattle.reorder.specs.Taking.{ReorderState}
-use Rattle.stream.specs.Items.{Block, bytes_of_items, relations_sent_through, xlogdata_word}
+use Rattle.pgoutput.specs.Items.{Block, bytes_of_items, relations_sent_through, xlogdata_word}
 use Rattle.sender.specs.Published.{published_note}
 use Rattle.sender.specs.Outgoing.{AddsBytes, Grows, IsOutgoing, held_of, sent_of}
 use Rattle.sender.specs.declared.outgoing.Outgoing.{Outgoing}

@@ -2,14 +2,14 @@
 use Rattle.std.proofs.Common.{◌≡◌, ℕ, ◌<◌, ◌^◌, List, [], ◌∷◌, ◌++◌, Option, Some, None, Result, Ok, Err, filter, refl, ap, subst, arith}
 use Rattle.std.specs.Prelude.{pos, true, OnErr, OnOk}
 use Rattle.std.specs.List.{AllByRecursion}
-use Rattle.logical.specs.declared.logical.Logical.{Logical}
-use Rattle.logical.specs.Logical.{FitsLogical}
+use Rattle.pgoutput.specs.declared.logical.Logical.{Logical}
+use Rattle.pgoutput.specs.Logical.{FitsLogical}
 use Rattle.tables.specs.declared.change.Change.{Change}
 use Rattle.publication.specs.Publications.{PublicationSet}
 use Rattle.publication.specs.Logged.{IsNoteAt, note_message}
 use Rattle.publication.specs.Selection.{relation}
-use Rattle.stream.specs.declared.published.Published.{Published}
-use Rattle.stream.specs.Items.{FitsPublished, IsShortMessage}
+use Rattle.pgoutput.specs.declared.published.Published.{Published}
+use Rattle.pgoutput.specs.Items.{FitsPublished, IsShortMessage}
 use Rattle.sender.specs.Published.{has_message, published_at, published_note}
 
 -- the note with this message

@@ -4,8 +4,8 @@ use Rattle.std.proofs.lemmas.List.{length-append, length-drop, length-take}
 use Rattle.publication.specs.Publications.{PublicationSet}
 use Rattle.reorder.specs.Pool.{PoolState}
 use Rattle.reorder.specs.Ready.{ready_entries}
-use Rattle.stream.specs.declared.published.PublishedChange.{PublishedChange}
-use Rattle.stream.specs.Items.{relations_sent_by_all}
+use Rattle.pgoutput.specs.declared.published.PublishedChange.{PublishedChange}
+use Rattle.pgoutput.specs.Items.{relations_sent_by_all}
 use Rattle.sender.specs.Published.{published_changes}
 use Rattle.sender.specs.Waiting.{AreWithin, bytes_behind, bytes_left, changes_bytes, commit_bytes, left_of, places, ready_states, sent_behind}
 use Rattle.sender.specs.declared.waiting.Waiting.{Waiting}

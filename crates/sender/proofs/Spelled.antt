@@ -9,8 +9,8 @@ use Rattle.std.proofs.lemmas.List.Concat.{flat_map-cons}
 use Rattle.pqformat.specs.Fields.{int32, int64, number_at, string}
 use Rattle.pqformat.proofs.Codec.{found_some, not_missing}
 use Rattle.pqformat.proofs.Numbers.{length-int32, length-int64, number32}
-use Rattle.logical.specs.declared.logical.Logical.{Logical}
-use Rattle.logical.specs.declared.logical.Logical.TheVariants as logical
+use Rattle.pgoutput.specs.declared.logical.Logical.{Logical}
+use Rattle.pgoutput.specs.declared.logical.Logical.TheVariants as logical
 use Rattle.pgoutput.specs.declared.relation.Relation.{Relation}
 use Rattle.pgoutput.specs.declared.insert.TheConstants.{INSERT, NEW}
 use Rattle.pgoutput.specs.declared.update.TheConstants.{UPDATE}
@@ -18,14 +18,14 @@ use Rattle.pgoutput.specs.declared.delete.TheConstants.{DELETE}
 use Rattle.pgoutput.specs.declared.truncate.TheConstants.{TRUNCATE}
 use Rattle.pgoutput.specs.declared.message.TheConstants.{MESSAGE}
 use Rattle.pgoutput.specs.Message.{content}
-use Rattle.logical.specs.Logical.{FitsLogical, spell_logical}
+use Rattle.pgoutput.specs.Logical.{FitsLogical, spell_logical}
 use Rattle.pgoutput.specs.Tuple.{tuple}
 use Rattle.pgoutput.specs.declared.old_tuple.OldTuple.{OldTuple}
 use Rattle.pgoutput.specs.declared.old_tuple.OldTuple.TheVariants as olds
 use Rattle.pgoutput.specs.OldTuple.{old_tuple}
 use Rattle.pgoutput.specs.Update.{old_if_any}
 use Rattle.pgoutput.specs.Truncate.{options_letter}
-use Rattle.logical.proofs.Wires.{logical_codec}
+use Rattle.pgoutput.proofs.Wires.{logical_codec}
 use Rattle.publication.specs.Publications.{PublicationSet}
 use Rattle.publication.specs.Logged.{change_message}
 use Rattle.publication.specs.Projection.{MessageFits}
@@ -34,8 +34,8 @@ use Rattle.tables.specs.declared.change.Change.{Change}
 use Rattle.tables.specs.Reading.{SpellsBody}
 use Rattle.wal.specs.Log.{Entry}
 use Rattle.reorder.specs.Ready.{IsEntryAt}
-use Rattle.stream.specs.declared.published.PublishedChange.{PublishedChange}
-use Rattle.stream.specs.Items.{IsOfChange, tables_of}
+use Rattle.pgoutput.specs.declared.published.PublishedChange.{PublishedChange}
+use Rattle.pgoutput.specs.Items.{IsOfChange, tables_of}
 use Rattle.sender.specs.Published.{published_at, published_changes}
 use Rattle.sender.specs.Spelled.{Tells, Yields, message_in, named_in, oids_in}
 use Rattle.sender.proofs.Changes.{there}

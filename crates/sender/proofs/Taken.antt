@@ -5,7 +5,7 @@ use Rattle.wal.specs.declared.record.Record.{Record}
 use Rattle.wal.specs.Log.{Entry}
 use Rattle.publication.specs.Publications.{PublicationSet}
 use Rattle.publication.specs.Selection.{relation}
-use Rattle.stream.specs.Items.{FitsPublished, bytes_of_items, relations_sent_through}
+use Rattle.pgoutput.specs.Items.{FitsPublished, bytes_of_items, relations_sent_through}
 use Rattle.reorder.specs.Chunks.{IsTidy, held_with}
 use Rattle.reorder.specs.Pool.{IsLent, StaysLent}
 use Rattle.reorder.specs.Ready.{ReadyState}

@@ -3,7 +3,7 @@ use Rattle.std.proofs.Common.{◌≡◌, ◌<◌, ◌+◌, ◌^◌, ℕ, Bool, t
 use Rattle.std.specs.Prelude.{FitsSigned, IfSome, MatchBool, is_some, option_map, option_to_list}
 use Rattle.std.specs.Int.{w64}
 use Rattle.std.specs.List.{All, AllByRecursion}
-use Rattle.logical.specs.declared.logical.Logical.{Logical}
+use Rattle.pgoutput.specs.declared.logical.Logical.{Logical}
 use Rattle.tables.specs.declared.change.Change.{Change}
 use Rattle.tables.specs.Reading.{SpellsBody}
 use Rattle.wal.specs.Log.{Entry}
@@ -15,9 +15,9 @@ use Rattle.reorder.specs.Entries.{IsEntry, body_in, position_in}
 use Rattle.reorder.specs.Pool.{PoolState, entries_at}
 use Rattle.reorder.specs.Ready.{IsEntryAt, IsReadyIn, IsPlace, ReadyState, PlaceState, bytes_at, entry_at, lent_from, ready_entries}
 use Rattle.reorder.proofs.Coding.{body_spells, position_of}
-use Rattle.stream.specs.declared.published.Published.{Published}
-use Rattle.stream.specs.declared.published.PublishedChange.{PublishedChange}
-use Rattle.stream.specs.Items.{FitsPublished}
+use Rattle.pgoutput.specs.declared.published.Published.{Published}
+use Rattle.pgoutput.specs.declared.published.PublishedChange.{PublishedChange}
+use Rattle.pgoutput.specs.Items.{FitsPublished}
 use Rattle.sender.specs.declared.header.Header.{Header}
 use Rattle.sender.specs.Published.{CanBeTold, published_at, published_changes, published_with}
 use Rattle.sender.proofs.Changes.{there}

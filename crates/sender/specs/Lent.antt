@@ -2,13 +2,13 @@
 use Rattle.std.specs.Prelude.{◌≡◌, ◌&&◌, ℕ, ℤ, not, List, [], ◌∷◌, ◌++◌, if◌then◌else◌}
 use Rattle.std.specs.List.{flat_map}
 use Rattle.pgoutput.specs.declared.commit.Commit.{Commit}
-use Rattle.logical.specs.declared.logical.Logical.TheVariants as logical
+use Rattle.pgoutput.specs.declared.logical.Logical.TheVariants as logical
 use Rattle.publication.specs.Publications.{PublicationSet}
 use Rattle.wal.specs.declared.record.Record.{Record}
 use Rattle.wal.specs.Log.{Transaction, committed_from}
-use Rattle.stream.specs.declared.published.Published.{Published}
-use Rattle.stream.specs.Words.{word_bytes}
-use Rattle.stream.specs.Items.{xlogdata_word}
+use Rattle.pgoutput.specs.declared.published.Published.{Published}
+use Rattle.pgoutput.specs.Words.{word_bytes}
+use Rattle.pgoutput.specs.Items.{xlogdata_word}
 use Rattle.reorder.specs.Chunks.{transaction_chunks}
 use Rattle.sender.specs.Published.{has_message, published_as}
 

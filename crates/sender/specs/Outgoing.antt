@@ -3,8 +3,8 @@ use Rattle.std.specs.Prelude.{◌≡◌, ◌⊎◌, ◌<◌, ◌≤◌, ◌-◌,
 use Rattle.std.specs.declared.alloc.AllocError.{AllocError}
 use Rattle.publication.specs.Publications.{PublicationSet}
 use Rattle.publication.specs.Selection.{relation, selected_oids}
-use Rattle.stream.specs.declared.published.Published.{Published}
-use Rattle.stream.specs.Items.{Block, bytes_of_items, relations_sent_through}
+use Rattle.pgoutput.specs.declared.published.Published.{Published}
+use Rattle.pgoutput.specs.Items.{Block, bytes_of_items, relations_sent_through}
 use Rattle.reorder.specs.Ready.{ReadyState}
 use Rattle.sender.specs.declared.header.Header.{Header}
 use Rattle.reorder.specs.Chunks.{IsTidy, live_chunks}

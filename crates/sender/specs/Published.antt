@@ -1,7 +1,7 @@
 -- The published transactions of a log: those that commit at the start position or later, each change replaced by its position
 -- and its message, without the changes that have none and without the transactions that have none left.
 use Rattle.std.specs.Prelude.{ℕ, ◌==◌, ◌<◌, ◌^◌, Bool, true, false, not, List, [], ◌∷◌, ◌++◌, length, map, filter, Option, Some, None}
-use Rattle.logical.specs.declared.logical.Logical.{Logical}
+use Rattle.pgoutput.specs.declared.logical.Logical.{Logical}
 use Rattle.publication.specs.Publications.{PublicationSet}
 use Rattle.wal.specs.declared.record.Record.{Record}
 use Rattle.tables.specs.declared.change.Change.{Change}
@@ -9,8 +9,8 @@ use Rattle.wal.specs.Log.{Entry, Transaction, note_as_transaction, committed_fro
 use Rattle.publication.specs.Logged.{change_message, note_message}
 use Rattle.publication.specs.Projection.{MessageFits}
 use Rattle.sender.specs.declared.header.Header.{Header}
-use Rattle.stream.specs.declared.published.Published.{Published}
-use Rattle.stream.specs.declared.published.PublishedChange.{PublishedChange}
+use Rattle.pgoutput.specs.declared.published.Published.{Published}
+use Rattle.pgoutput.specs.declared.published.PublishedChange.{PublishedChange}
 
 abbrev pub published_at : ℕ → Option Logical → List PublishedChange
 published_at position None = []

@@ -10,8 +10,8 @@ use Rattle.wal.specs.Log.{Entry, Transaction, end_of}
 use Rattle.reorder.specs.Chunks.{IsTidy, LeavesNoRoom, live_chunks, transaction_chunks}
 use Rattle.reorder.specs.Taking.{ReorderState, HasTaken, MayCome, StartsBehind, Takes}
 use Rattle.publication.specs.Selection.{relation}
-use Rattle.stream.specs.declared.published.Published.{Published}
-use Rattle.stream.specs.Items.{Item, Block, FitsPublished, bytes_of_items, relations_sent_through}
+use Rattle.pgoutput.specs.declared.published.Published.{Published}
+use Rattle.pgoutput.specs.Items.{Item, Block, FitsPublished, bytes_of_items, relations_sent_through}
 use Rattle.sender.specs.declared.fault.SendFault.{SendFault}
 use Rattle.sender.specs.declared.fault.SendFault.TheVariants.{ArenaFull, Memory}
 use Rattle.sender.specs.Lent.{AreHeld, AreLastOf, LentTransaction, lent_with, sent_transactions}

@@ -1,14 +1,14 @@
 -- What is read off the spelling of a change's message: the message, and the tables that it names.
 use Rattle.std.specs.Prelude.{◌≡◌, ◌≤◌, ℕ, ◌==◌, List, [], ◌∷◌, drop, take, get_or, length, false, Option, Some, None, Result, Ok, Err, if◌then◌else◌}
 use Rattle.std.specs.Int.{w32, from_be_bytes}
-use Rattle.logical.specs.declared.logical.Logical.{Logical}
-use Rattle.logical.specs.declared.logical.Logical.TheVariants as logical
+use Rattle.pgoutput.specs.declared.logical.Logical.{Logical}
+use Rattle.pgoutput.specs.declared.logical.Logical.TheVariants as logical
 use Rattle.pgoutput.specs.declared.fault.OutFault.{OutFault}
 use Rattle.pgoutput.specs.declared.truncate.TheConstants.{TRUNCATE}
 use Rattle.pgoutput.specs.declared.message.TheConstants.{MESSAGE}
-use Rattle.logical.specs.Logical.{spell_logical, whole_of}
+use Rattle.pgoutput.specs.Logical.{spell_logical, whole_of}
 use Rattle.publication.specs.Publications.{PublicationSet}
-use Rattle.stream.specs.declared.published.PublishedChange.{PublishedChange}
+use Rattle.pgoutput.specs.declared.published.PublishedChange.{PublishedChange}
 use Rattle.sender.specs.declared.header.Header.{Header}
 use Rattle.sender.specs.Published.{CanBeTold}
 

@@ -7,9 +7,9 @@ use Rattle.frames.specs.declared.copy_data.TheConstants.{COPY_DATA}
 use Rattle.copyboth.specs.declared.xlogdata.TheConstants.{XLOGDATA}
 use Rattle.publication.specs.Publications.{PublicationSet}
 use Rattle.publication.specs.Selection.{relation, selected_table}
-use Rattle.stream.specs.declared.published.PublishedChange.{PublishedChange}
-use Rattle.stream.specs.Words.{frames_of, word_bytes}
-use Rattle.stream.specs.Items.{changes_words, is_relation_sent, relations_sent_by_all, xlogdata_word}
+use Rattle.pgoutput.specs.declared.published.PublishedChange.{PublishedChange}
+use Rattle.pgoutput.specs.Words.{frames_of, word_bytes}
+use Rattle.pgoutput.specs.Items.{changes_words, is_relation_sent, relations_sent_by_all, xlogdata_word}
 use Rattle.reorder.specs.Pool.{PoolState}
 use Rattle.reorder.specs.Ready.{ReadyState, ready_entries}
 use Rattle.reorder.specs.declared.ready.Step.{Step}

@@ -2,7 +2,7 @@
 #![tactic(auto, using(row_messages::proofs::Written::sizes))]
 
 ghost use Rattle.std.specs.Prelude.{◌≡◌, ◌<◌, ◌≤◌, ◌^◌, length, take};
-ghost use Rattle.logical.specs.Logical.{spell_logical};
+ghost use Rattle.pgoutput.specs.Logical.{spell_logical};
 ghost use Rattle.pqformat.specs.Writing.{FitsRoom, Writes};
 ghost use Rattle.sender.specs.Spelled.{begin_with, commit_with};
 ghost use Rattle.sender.specs.Waiting.{begin_bytes, commit_bytes};

@@ -3,10 +3,10 @@
 
 ghost use Rattle.std.specs.Prelude.{◌≡◌, ◌⊎◌, ◌==◌, ℕ, true, ◌+◌, ◌<◌, ◌≤◌, ◌^◌, [], ◌∷◌, List, None, IfSome, IsSome, false, length, reverse, take, vec_capacity};
 ghost use Rattle.std.specs.List.{list_any};
-ghost use Rattle.logical.specs.Logical.{spell_logical};
-ghost use Rattle.logical.specs.declared.logical.Logical.TheVariants as logical;
+ghost use Rattle.pgoutput.specs.Logical.{spell_logical};
+ghost use Rattle.pgoutput.specs.declared.logical.Logical.TheVariants as logical;
 ghost use Rattle.publication.specs.Selection.{relation, selected_oids, selected_table};
-ghost use Rattle.stream.specs.Items.{is_relation_sent, relations_due};
+ghost use Rattle.pgoutput.specs.Items.{is_relation_sent, relations_due};
 ghost use Rattle.reorder.specs.Ready.{IsReadyIn};
 ghost use Rattle.sender.specs.Spelled.{oids_in};
 ghost use Rattle.sender.specs.Waiting.{AreSelected, Makes, frame_head, left_of};

@@ -6,8 +6,8 @@ ghost use Rattle.frames.specs.Frame.{frame};
 ghost use Rattle.frames.specs.declared.copy_data.TheConstants.{COPY_DATA};
 ghost use Rattle.frames.specs.declared.frame.TheConstants.{FRAME_LIMIT};
 ghost use Rattle.publication.specs.Selection.{selected_oids};
-ghost use Rattle.stream.specs.Words.{word_bytes};
-ghost use Rattle.stream.specs.Items.{keepalive_word};
+ghost use Rattle.pgoutput.specs.Words.{word_bytes};
+ghost use Rattle.pgoutput.specs.Items.{keepalive_word};
 ghost use Rattle.sender.specs.Outgoing.{AddsBytes, IsSameQueue, IsSized, Queues, StaysQueued};
 ghost use Rattle.sender.specs.Waiting.{begin_bytes};
 

@@ -5,7 +5,7 @@ ghost use Rattle.std.specs.Int.{w64};
 ghost use Rattle.std.specs.List.{AllByRecursion};
 ghost use Rattle.wal.specs.declared.record.Record.{Record as Logged};
 ghost use Rattle.publication.specs.Selection.{relation};
-ghost use Rattle.stream.specs.Items.{FitsPublished};
+ghost use Rattle.pgoutput.specs.Items.{FitsPublished};
 ghost use Rattle.reorder.specs.Chunks.{IsTidy};
 ghost use Rattle.reorder.specs.Ready.{IsReadyIn, ready_entries};
 ghost use Rattle.reorder.specs.Settled.{AreLentIn, after_giving_all_back, ready_chunks};

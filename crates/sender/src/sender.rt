@@ -3,8 +3,8 @@
 ghost use Rattle.std.specs.Prelude.{◌≡◌, ◌≢◌, ◌↔◌, ◌++◌, ◌==◌, ◌<◌, ◌^◌, ◌+◌, [], List, None, replicate, ℕ, false, true, not, min, take, drop, length, Err, IfOk, IsOk, OnErr, OnOk};
 ghost use Rattle.wal.specs.Log.{follows};
 ghost use Rattle.wal.specs.Records.{shared_records};
-ghost use Rattle.stream.specs.Words.{word_bytes};
-ghost use Rattle.stream.specs.Items.{keepalive_word};
+ghost use Rattle.pgoutput.specs.Words.{word_bytes};
+ghost use Rattle.pgoutput.specs.Items.{keepalive_word};
 ghost use Rattle.sender.specs.Lent.{AreLastOf};
 ghost use Rattle.sender.specs.Sending.{HasChunks, HasRead, LacksRoom, LeavesChunks, ReadAll, RanOut};
 ghost use Rattle.wal.specs.declared.record.Record.{Record as Logged};

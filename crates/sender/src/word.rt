@@ -7,8 +7,8 @@ ghost use Rattle.pqformat.specs.Putting.{Puts};
 ghost use Rattle.frames.specs.declared.frame.TheConstants.{FRAME_LIMIT};
 ghost use Rattle.frames.specs.Frame.{frame};
 ghost use Rattle.copyboth.specs.XLogData.{xlogdata};
-ghost use Rattle.stream.specs.Words.{word_bytes};
-ghost use Rattle.stream.specs.Items.{keepalive_word};
+ghost use Rattle.pgoutput.specs.Words.{word_bytes};
+ghost use Rattle.pgoutput.specs.Items.{keepalive_word};
 
 use bytes::BytesMut;
 use copyboth::{write_keepalive, write_xlogdata};

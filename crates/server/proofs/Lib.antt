@@ -3,3 +3,9 @@ pub mod Names
 pub mod Parameters
 pub mod Segments
 pub mod Turning
+pub mod Quotes
+pub mod Lists
+pub mod Slots
+pub mod Once
+pub mod Rows
+pub mod Tails

@@ -17,16 +17,16 @@ use Rattle.frames.specs.Frame.{Gives}
 use Rattle.frames.specs.Front.{SpellsFront, IsShortFront, framed_front}
 use Rattle.frames.specs.Startup.{SpellsStartup, framed_startup, startup_number, startup_body}
 use Rattle.pqformat.proofs.Numbers.{length-int32}
-use Rattle.answers.specs.declared.service.Dialect.{Dialect}
-use Rattle.answers.specs.declared.service.Service.{Service}
+use Rattle.server.specs.declared.service.Dialect.{Dialect}
+use Rattle.server.specs.declared.service.Service.{Service}
 use Rattle.server.specs.declared.connection.Connection.{Connection}
-use Rattle.answers.specs.declared.refusal.Refusal.TheVariants.{Violation}
+use Rattle.server.specs.declared.refusal.Refusal.TheVariants.{Violation}
 use Rattle.server.specs.declared.stage.Stage.{Stage}
 use Rattle.server.specs.declared.stage.Stage.TheVariants.{Fresh, Closed}
 use Rattle.server.specs.declared.stage.Turned.{Turned}
 use Rattle.server.specs.Calls.{Call}
 use Rattle.server.specs.Conversation.{Gave, Tried}
-use Rattle.answers.specs.Said.{error_of_refusal}
+use Rattle.server.specs.Said.{error_of_refusal}
 use Rattle.server.specs.Turns.{Turn, IsTurn, IsFrameTurn, Hears, Opens, Streams, refusal_of}
 use Rattle.server.specs.Segment.{Went, HasText, Asks, Said, IsTurned, TakesTurn}
 use Rattle.server.proofs.Steps.{nothing_tried, tried_as}

@@ -1,8 +1,8 @@
 -- What a connection asks of its desk, with the answers.
 use Rattle.std.specs.Prelude.{◌≡◌, ℕ, Bool, List, [], ◌∷◌, Result}
 use Rattle.replcmd.specs.declared.setting.StreamOptions.{StreamOptions}
-use Rattle.answers.specs.declared.fault.DeskFault.{DeskFault}
-use Rattle.answers.specs.declared.table_name.TableName.{TableName}
+use Rattle.server.specs.declared.desk_fault.DeskFault.{DeskFault}
+use Rattle.server.specs.declared.table_name.TableName.{TableName}
 
 pub data Call : Type 0 where
   End : (end : ℕ) → Call

@@ -8,18 +8,18 @@ use Rattle.replcmd.specs.Grammar.{SpellsCommand}
 use Rattle.replcmd.specs.Commands.{Tells}
 use Rattle.pqformat.specs.Putting.{Extends}
 use Rattle.std.specs.declared.alloc.AllocError.{AllocError}
-use Rattle.answers.specs.declared.fault.DeskFault.{DeskFault}
-use Rattle.answers.specs.declared.refusal.Refusal.TheVariants as refusals
-use Rattle.answers.specs.declared.service.Dialect.{Dialect}
-use Rattle.answers.specs.declared.service.Dialect.TheVariants.{Commands, Questions}
-use Rattle.answers.specs.declared.table_name.TableName.{TableName}
-use Rattle.answers.specs.Answers.{path_set, mode_shown, publications_told, tables_told}
+use Rattle.server.specs.declared.desk_fault.DeskFault.{DeskFault}
+use Rattle.server.specs.declared.refusal.Refusal.TheVariants as refusals
+use Rattle.server.specs.declared.service.Dialect.{Dialect}
+use Rattle.server.specs.declared.service.Dialect.TheVariants.{Commands, Questions}
+use Rattle.server.specs.declared.table_name.TableName.{TableName}
+use Rattle.server.specs.Answers.{path_set, mode_shown, publications_told, tables_told}
 use Rattle.server.specs.Calls.{Call, End, System, CreateSlot, DropSlot, StartStream, AreAsked}
 use Rattle.server.specs.Calls as calls
-use Rattle.answers.specs.Said.{error_and_ready, answer_to_identify, answer_to_create, answer_to_drop, answer_to_start}
-use Rattle.questions.specs.declared.question.Question.{Question}
-use Rattle.questions.specs.declared.question.Question.TheVariants.{SearchPath, DirectoryMode, InitialCopy, Publications, Tables, DropWhenFree}
-use Rattle.questions.specs.Questions.{SpellsQuestion}
+use Rattle.server.specs.Said.{error_and_ready, answer_to_identify, answer_to_create, answer_to_drop, answer_to_start}
+use Rattle.server.specs.declared.question.Question.{Question}
+use Rattle.server.specs.declared.question.Question.TheVariants.{SearchPath, DirectoryMode, InitialCopy, Publications, Tables, DropWhenFree}
+use Rattle.server.specs.Questions.{SpellsQuestion}
 
 -- what was asked of the desk, and what was said, in one step
 pub record Gave {D : Type 0} (told : D → Call → D → Type 0) (Fact : List Call → List ℕ → Type 0) (desk : D) (out : List ℕ) (desk' : D) (out' : List ℕ) : Type 0 where

@@ -3,3 +3,8 @@ pub mod Opening
 pub mod Conversation
 pub mod Turns
 pub mod Segment
+pub mod Questions
+pub mod Reading
+pub mod Refusals
+pub mod Said
+pub mod Answers

@@ -4,7 +4,7 @@ use Rattle.std.specs.Int.{w32}
 use Rattle.std.specs.List.{flat_map, AllByRecursion}
 use Rattle.pqformat.specs.Fields.{byte_at, number_at}
 use Rattle.frames.specs.declared.query.TheConstants.{QUERY}
-use Rattle.answers.specs.declared.service.Service.{Service}
+use Rattle.server.specs.declared.service.Service.{Service}
 use Rattle.server.specs.declared.fault.ConnFault.{ConnFault}
 use Rattle.server.specs.declared.fault.ConnFault.TheVariants as faults
 use Rattle.server.specs.declared.connection.Phase.{Phase}
@@ -20,7 +20,7 @@ use Rattle.server.specs.Conversation.{Gave, Tried}
 use Rattle.server.specs.declared.conversation.Event.{Event}
 use Rattle.server.specs.declared.conversation.Event.TheVariants.{Came, AllSent}
 use Rattle.server.specs.Turns.{Turn, IsTurn, AreTurns, Waits, end_turn}
-use Rattle.answers.specs.Said.{end_of_stream}
+use Rattle.server.specs.Said.{end_of_stream}
 
 -- a turn for a text, so not the end of a stream
 abbrev pub HasText : Turn → Type 0

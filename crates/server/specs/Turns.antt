@@ -13,16 +13,16 @@ use Rattle.frames.specs.Front.{SpellsFront, IsShortFront, framed_front}
 use Rattle.copyboth.specs.declared.fault.CopyFault.{CopyFault}
 use Rattle.copyboth.specs.declared.status.Status.{Status}
 use Rattle.copyboth.specs.Status.{SpellsStatus, client_fault}
-use Rattle.answers.specs.declared.service.Dialect.{Dialect}
-use Rattle.answers.specs.declared.service.Service.{Service}
-use Rattle.answers.specs.declared.refusal.Refusal.{Refusal}
-use Rattle.answers.specs.declared.refusal.Refusal.TheVariants.{Violation, Version}
+use Rattle.server.specs.declared.service.Dialect.{Dialect}
+use Rattle.server.specs.declared.service.Service.{Service}
+use Rattle.server.specs.declared.refusal.Refusal.{Refusal}
+use Rattle.server.specs.declared.refusal.Refusal.TheVariants.{Violation, Version}
 use Rattle.server.specs.declared.stage.Stage.{Stage}
 use Rattle.server.specs.declared.stage.Stage.TheVariants.{Fresh, Idle, Streaming, Stopping, Closed}
 use Rattle.server.specs.Calls.{Call, Flushed}
 use Rattle.server.specs.Conversation.{RepliesIn}
 use Rattle.server.specs.Opening.{opened_database}
-use Rattle.answers.specs.Said.{error_of_refusal, answer_to_startup, end_of_stream}
+use Rattle.server.specs.Said.{error_of_refusal, answer_to_startup, end_of_stream}
 
 pub record Turn : Type 0 where
   pub text : List ℕ

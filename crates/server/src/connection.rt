@@ -5,14 +5,15 @@ ghost use Rattle.pqformat.specs.Fields.{byte_at};
 ghost use Rattle.server.specs.Segment.{Went, HasText, Broke, Asks, Ended, UnlessMemory, has_command, has_query, phase_of};
 ghost use Rattle.server.specs.Conversation.{Tried};
 ghost use Rattle.server.specs.Turns.{IsTurn, Waits, end_turn};
-ghost use Rattle.answers.specs.declared.service.Dialect.TheVariants.{Commands};
+ghost use Rattle.server.specs.declared.service.Dialect.TheVariants.{Commands};
 ghost use Rattle.server.specs.declared.stage.Stage.TheVariants.{Fresh, Closed};
 
 use crate::desk::Desk;
 use crate::fault::ConnFault;
+use crate::say::say_ended;
+use crate::service::{Dialect, Service};
 use crate::stage::{Stage, Turned};
 use crate::turn::turn;
-use answers::{Dialect, Service, say_ended};
 use bytes::BytesMut;
 use frames::{Cursor, QUERY};
 use std::alloc::{AllocError, Global};

@@ -9,7 +9,7 @@ ghost use Rattle.server.specs.Turns.{IsConversation};
 use crate::connection::{Connection, Phase};
 use crate::desk::Desk;
 use crate::fault::ConnFault;
-use answers::Service;
+use crate::service::Service;
 use bytes::BytesMut;
 use std::alloc::{AllocError, Global};
 

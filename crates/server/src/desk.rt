@@ -2,9 +2,10 @@
 
 ghost use Rattle.std.specs.Prelude.{◌<◌, ◌^◌, length, IfOk};
 ghost use Rattle.std.specs.List.{AllByRecursion};
-ghost use Rattle.answers.specs.Answers.{IsShort, IsShortName};
+ghost use Rattle.server.specs.Answers.{IsShort, IsShortName};
 
-use answers::{DeskFault, TableName};
+use crate::desk_fault::DeskFault;
+use crate::table_name::TableName;
 use pqformat::{Items, Text};
 use replcmd::{CmdFault, StreamOptions};
 

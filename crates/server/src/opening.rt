@@ -5,10 +5,13 @@ ghost use Rattle.pqformat.specs.Putting.{Extends, Puts};
 ghost use Rattle.pqformat.specs.Steps.{closed_list};
 ghost use Rattle.frames.specs.Parameter.{parameter};
 ghost use Rattle.server.specs.Opening.{value_of, opened_database, is_database, first_of};
-ghost use Rattle.answers.specs.Said.{answer_to_startup, greeting_of};
+ghost use Rattle.server.specs.Said.{answer_to_startup, greeting_of};
 
 use crate::database::{Database, MOST_DATABASE_BYTES};
-use answers::{Dialect, Refusal, Service, say_greeting, say_other_greeting, say_refused};
+use crate::refusal::Refusal;
+use crate::say::{say_greeting, say_refused};
+use crate::say_answers::say_other_greeting;
+use crate::service::{Dialect, Service};
 use bytes::BytesMut;
 use frames::Parameter;
 use pqformat::Text;

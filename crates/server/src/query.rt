@@ -6,9 +6,9 @@ ghost use Rattle.replcmd.specs.declared.command.Command.TheVariants.{Identify, C
 
 use crate::database::Database;
 use crate::desk::Desk;
-use answers::{
-    DeskFault, Refusal, say_created, say_dropped, say_identified, say_refused_ready, say_started,
-};
+use crate::desk_fault::DeskFault;
+use crate::refusal::Refusal;
+use crate::say::{say_created, say_dropped, say_identified, say_refused_ready, say_started};
 use bytes::BytesMut;
 use pqformat::Text;
 use replcmd::{Command, StreamOptions, parse_command};

@@ -1,19 +1,19 @@
 //! Queries where questions are answered, and where they aren't.
 
 ghost use Rattle.std.specs.Prelude.{◌≡◌, false};
-ghost use Rattle.questions.specs.Questions.{SpellsQuestion};
+ghost use Rattle.server.specs.Questions.{SpellsQuestion};
 ghost use Rattle.server.specs.Conversation.{Answered, AnswersQuestion, RepliesIn};
 
 use crate::database::Database;
 use crate::desk::Desk;
 use crate::query::reply;
-use answers::{
-    Dialect, Refusal, say_dropped, say_found_tables, say_mode, say_path_set, say_publications,
-    say_refused_ready,
-};
+use crate::question::{Question, question_of};
+use crate::refusal::Refusal;
+use crate::say::{say_dropped, say_refused_ready};
+use crate::say_answers::{say_found_tables, say_mode, say_path_set, say_publications};
+use crate::service::Dialect;
 use bytes::BytesMut;
 use pqformat::{Items, Text};
-use questions::{Question, question_of};
 use std::alloc::{AllocError, Global};
 
 fn tell_publications<D: Desk>(

@@ -8,9 +8,11 @@ ghost use Rattle.server.specs.declared.stage.Stage.TheVariants.{Idle};
 
 use crate::database::Database;
 use crate::desk::Desk;
+use crate::refusal::Refusal;
 use crate::replying::reply_in;
+use crate::say::say_refused;
+use crate::service::{Dialect, Service};
 use crate::stage::{Stage, Turned, refuse};
-use answers::{Dialect, Refusal, Service, say_refused};
 use bytes::BytesMut;
 use frames::{Front, read_front};
 use std::alloc::{AllocError, Global};

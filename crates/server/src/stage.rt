@@ -2,11 +2,12 @@
 
 ghost use Rattle.std.specs.Prelude.{◌≡◌, ◌≢◌, ◌++◌, length, IfOk, OnOk, OnErr};
 ghost use Rattle.pqformat.specs.Putting.{Extends};
-ghost use Rattle.answers.specs.Said.{error_of_refusal};
+ghost use Rattle.server.specs.Said.{error_of_refusal};
 ghost use Rattle.server.specs.Turns.{refusal_of};
 
 use crate::database::Database;
-use answers::{Refusal, say_refused};
+use crate::refusal::Refusal;
+use crate::say::say_refused;
 use bytes::BytesMut;
 use frames::FrameFault;
 use std::alloc::{AllocError, Global};

@@ -10,8 +10,10 @@ ghost use Rattle.server.specs.declared.stage.Stage.TheVariants.{Streaming};
 
 use crate::database::Database;
 use crate::desk::Desk;
+use crate::refusal::Refusal;
+use crate::say::say_refused;
+use crate::service::Service;
 use crate::stage::{Stage, Turned, refuse};
-use answers::{Refusal, Service, say_refused};
 use bytes::BytesMut;
 use copyboth::{Status, read_client};
 use frames::{Front, read_front};

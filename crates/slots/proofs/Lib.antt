@@ -5,3 +5,16 @@ pub mod Steps
 pub mod Seating
 pub mod Holding
 pub mod Creating
+pub mod NamedFacts
+pub mod Names
+pub mod NamedStanding
+pub mod Claiming
+pub mod Confirming
+pub mod Listing
+pub mod NamedCreating
+pub mod Placing
+pub mod Leasing
+pub mod Finding
+pub mod Leases
+pub mod Claims
+pub mod Opening

@@ -4,3 +4,7 @@ pub mod Standings
 pub mod Facts
 pub mod Rule
 pub mod Seats
+pub mod State
+pub mod Keeping
+pub mod Leasing
+pub mod Words

@@ -1,14 +1,23 @@
-//! Tests of the crates' public calls: what samples of bytes and schedules can't say.
+//! Tests of the crates' public calls, and of connections that are served side by side over loopback: what samples of bytes and
+//! schedules can't say.
 #![tactic(auto)]
 
+#[cfg(test)]
+mod beside;
 #[cfg(test)]
 mod drain_calls;
 #[cfg(test)]
 mod follower;
 #[cfg(test)]
+mod gated;
+#[cfg(test)]
+mod hub_fixture;
+#[cfg(test)]
 mod load_calls;
 #[cfg(test)]
 mod log_fixture;
+#[cfg(test)]
+mod peer;
 #[cfg(test)]
 mod receipt_calls;
 #[cfg(test)]

@@ -3,8 +3,7 @@
 use catalog::Catalog;
 use chgarena::Arena;
 use pqformat::Text;
-use publication::Selection;
-use publications::Publications;
+use publication::{Publications, Selection};
 use sender::Sender;
 use shared_log::{LogName, LogReader, ReadFault};
 use std::alloc::{AllocError, Global};

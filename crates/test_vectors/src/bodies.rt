@@ -1,7 +1,7 @@
 //! Logical messages, bodies inside CopyData and bodies of changes: what is read of all bytes is written again.
 
 ghost use Rattle.std.specs.Prelude.{◌≡◌, true, IfOk};
-ghost use Rattle.logical.specs.Logical.{FitsLogical, IsShort};
+ghost use Rattle.pgoutput.specs.Logical.{FitsLogical, IsShort};
 ghost use Rattle.tables.specs.Spelling.{IsShort as IsShortBody};
 
 use crate::answer::{tell, tell_written};
@@ -10,8 +10,7 @@ use bytes::BytesMut;
 use copyboth::{
     ServerBody, Status, read_client, read_server, write_keepalive, write_status, write_xlogdata,
 };
-use logical::{Logical, read_logical, write_logical, written_and_read};
-use pgoutput::OutFault;
+use pgoutput::{Logical, OutFault, read_logical, write_logical, written_and_read};
 use std::alloc::{AllocError, Global};
 use tables::{
     BodyFault, Change, MAX_CONTENT_LENGTH, MAX_PREFIX_LENGTH, MAX_TRUNCATED, body_len, read_body,

@@ -4,7 +4,7 @@ use anyhow::{Result, bail};
 use configuration::ConfigFault;
 use frames::FrameFault;
 use pgoutput::OutFault;
-use publications::PubFault;
+use publication::PubFault;
 use reorder::ReorderFault;
 use rowfilter::FilterFault;
 use schedule::{Answer, WorldFault};

@@ -3,10 +3,9 @@
 use crate::answer::{add_value, bytes_of, tell_fault};
 use anyhow::{Context, Result, bail};
 use catalog::{Catalog, read_document};
-use logical::read_logical;
+use pgoutput::read_logical;
 use pqformat::Text;
-use publication::{MAX_MESSAGE_LENGTH, Projected, Selection};
-use publications::{PubFault, Publications, explained};
+use publication::{MAX_MESSAGE_LENGTH, Projected, PubFault, Publications, Selection, explained};
 use std::alloc::{AllocError, Global};
 use tables::{Change, read_body};
 use toml::Value;

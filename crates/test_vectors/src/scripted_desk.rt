@@ -1,9 +1,8 @@
 //! A desk that does as the names of slots say, and writes down what it is asked.
 
-use answers::{DeskFault, TableName};
 use pqformat::{Items, Text};
 use replcmd::StreamOptions;
-use server::Desk;
+use server::{Desk, DeskFault, TableName};
 use std::alloc::{AllocError, Global};
 
 /// The slots that it refuses, and why. It takes any other.

@@ -3,10 +3,9 @@
 use crate::answer::{add_value, bytes_of};
 use anyhow::{Context, Result};
 use client::{Applied, Applier, ClientFault};
-use logical::{Logical, read_logical};
-use pgoutput::{Begin, Commit};
+use message_lines::render;
+use pgoutput::{Begin, Commit, Logical, read_logical};
 use std::alloc::{AllocError, Global};
-use text_lines::render;
 
 /// Pieces of a stream in digits, a comma behind each; a dot among them begins another connection. Adds what each piece was answered,
 /// and then the position and the lines of what was applied.

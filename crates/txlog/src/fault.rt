@@ -5,41 +5,51 @@ ghost use Rattle.txlog.specs.declared.fault.SessionFault.TheVariants.{Memory};
 ghost use Rattle.txlog.specs.Publishing.{code_of, fault_of};
 
 use std::alloc::{AllocError, AllocFailed};
+use std::error::Error;
+use std::fmt;
 use store::StoreFault;
-use thiserror::Error;
 
 /// Why a session's call was refused. A refused call changes nothing.
-#[derive(Clone, Copy, Debug, PartialEq, Eq, Error)]
+#[derive(Clone, Copy, Debug, PartialEq, Eq)]
 pub enum SessionFault {
-    #[error("there is no such table")]
     UnknownTable,
-    #[error("the row does not fit the table")]
     RowShape,
-    #[error("a row with this key exists")]
     DuplicateKey,
-    #[error("there is no row with this key")]
     NoSuchRow,
-    #[error("another transaction holds the key")]
     KeyHeld,
-    #[error("the row is too large")]
     TooLarge,
-    #[error("the log is full")]
     LogFull,
-    #[error("there is no such savepoint")]
     NoSavepoint,
-    #[error("savepoints are nested too deeply")]
     TooDeep,
-    #[error("too many transactions are live")]
     TooManyLive,
-    #[error("out of memory")]
     Memory,
-    #[error("no reader can be made")]
     NoReader,
-    #[error("no message has this prefix")]
     BadPrefix,
-    #[error("the transaction is not live")]
     NoTransaction,
 }
+
+impl fmt::Display for SessionFault {
+    fn fmt<W: fmt::Write>(&self, f: &mut fmt::Formatter<W>) -> fmt::Result {
+        f.write_str(match self {
+            SessionFault::UnknownTable => "there is no such table",
+            SessionFault::RowShape => "the row does not fit the table",
+            SessionFault::DuplicateKey => "a row with this key exists",
+            SessionFault::NoSuchRow => "there is no row with this key",
+            SessionFault::KeyHeld => "another transaction holds the key",
+            SessionFault::TooLarge => "the row is too large",
+            SessionFault::LogFull => "the log is full",
+            SessionFault::NoSavepoint => "there is no such savepoint",
+            SessionFault::TooDeep => "savepoints are nested too deeply",
+            SessionFault::TooManyLive => "too many transactions are live",
+            SessionFault::Memory => "out of memory",
+            SessionFault::NoReader => "no reader can be made",
+            SessionFault::BadPrefix => "no message has this prefix",
+            SessionFault::NoTransaction => "the transaction is not live",
+        })
+    }
+}
+
+impl Error for SessionFault {}
 
 impl SessionFault {
     /// The fault's code, S and its number.

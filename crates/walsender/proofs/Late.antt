@@ -6,8 +6,8 @@ use Rattle.wal.specs.declared.record.Body.{Body}
 use Rattle.wal.specs.declared.record.Body.TheVariants.{Assign, Change as Changed, AbortSub, Abort, Commit, Note}
 use Rattle.wal.specs.Log.{kept_changes, note_as_transaction, Transaction, committed_at, committed_by, committed_from, IsSized, follows}
 use Rattle.publication.specs.Publications.{PublicationSet}
-use Rattle.stream.specs.declared.published.Published.{Published}
-use Rattle.stream.proofs.Lists.{all_of_both}
+use Rattle.pgoutput.specs.declared.published.Published.{Published}
+use Rattle.pgoutput.proofs.Lists.{all_of_both}
 use Rattle.sender.specs.Published.{published_as, has_message, published_from}
 use Rattle.sender.proofs.Sections.{followed}
 

@@ -13,10 +13,10 @@ use Rattle.wal.specs.declared.record.Record.{Record}
 use Rattle.wal.specs.Log.{IsWellFormedLog, IsSized, follows, end_of}
 use Rattle.wal.proofs.Laws.{end_of-append}
 use Rattle.publication.specs.Selection.{relation}
-use Rattle.stream.specs.declared.published.Published.{Published}
-use Rattle.stream.specs.Words.{word_bytes}
-use Rattle.stream.specs.Items.{keepalive_word}
-use Rattle.stream.specs.Stream.{IsStream}
+use Rattle.pgoutput.specs.declared.published.Published.{Published}
+use Rattle.pgoutput.specs.Words.{word_bytes}
+use Rattle.pgoutput.specs.Items.{keepalive_word}
+use Rattle.pgoutput.specs.Stream.{IsStream}
 use Rattle.sender.specs.declared.fault.SendFault.{SendFault}
 use Rattle.sender.specs.declared.fault.SendFault.TheVariants as sends
 use Rattle.sender.specs.Published.{published_from, published_transactions}

@@ -11,8 +11,8 @@ use Rattle.wal.proofs.Restarts.{restart-skips_none, section-alike, section-whole
 use Rattle.wal.proofs.Sections.{skipped_none}
 use Rattle.publication.specs.Publications.{PublicationSet}
 use Rattle.publication.specs.Selection.{relation}
-use Rattle.stream.specs.declared.published.Published.{Published}
-use Rattle.stream.specs.Items.{FitsPublished}
+use Rattle.pgoutput.specs.declared.published.Published.{Published}
+use Rattle.pgoutput.specs.Items.{FitsPublished}
 use Rattle.sender.specs.Published.{published_transactions, published_as, published_from, has_message}
 use Rattle.sender.specs.Sending.{SenderState, AddsPublished, MayFollow, published_bytes}
 use Rattle.sender.proofs.Sections.{section_may_follow}

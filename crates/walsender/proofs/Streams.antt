@@ -10,12 +10,12 @@ use Rattle.pgoutput.specs.declared.relation.Relation.{Relation}
 use Rattle.wal.specs.declared.record.Record.{Record}
 use Rattle.publication.specs.Publications.{PublicationSet}
 use Rattle.publication.specs.Selection.{relation}
-use Rattle.stream.specs.declared.word.Keepalive.{Keepalive}
-use Rattle.stream.specs.declared.published.Published.{Published}
-use Rattle.stream.specs.Words.{word_bytes, frames_of}
-use Rattle.stream.specs.Items.{Item, KeepaliveItem, Block, keepalive_word, item_words, words_of, bytes_of_items, transactions_of, relations_sent_by_all, relations_sent_through, FitsPublished, FitsItem, FitItems}
-use Rattle.stream.specs.Stream.{IsStream, AreSafeKeepalives}
-use Rattle.stream.proofs.Lists.{all_of_both}
+use Rattle.pgoutput.specs.declared.word.Keepalive.{Keepalive}
+use Rattle.pgoutput.specs.declared.published.Published.{Published}
+use Rattle.pgoutput.specs.Words.{word_bytes, frames_of}
+use Rattle.pgoutput.specs.Items.{Item, KeepaliveItem, Block, keepalive_word, item_words, words_of, bytes_of_items, transactions_of, relations_sent_by_all, relations_sent_through, FitsPublished, FitsItem, FitItems}
+use Rattle.pgoutput.specs.Stream.{IsStream, AreSafeKeepalives}
+use Rattle.pgoutput.proofs.Lists.{all_of_both}
 use Rattle.sender.specs.Published.{published_from, published_transactions}
 use Rattle.sender.specs.Sending.{blocks, published_bytes}
 use Rattle.sender.proofs.Batches.{published_from-append}

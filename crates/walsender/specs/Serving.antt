@@ -7,7 +7,7 @@ use Rattle.wal.specs.declared.record.Record.{Record}
 use Rattle.wal.specs.Log.{IsWellFormedLog, end_of}
 use Rattle.wal.specs.Restart.{restart_place}
 use Rattle.publication.specs.Selection.{relation}
-use Rattle.stream.specs.Stream.{IsStream}
+use Rattle.pgoutput.specs.Stream.{IsStream}
 use Rattle.shared_log.specs.Readers.{seen_of}
 use Rattle.sender.specs.declared.fault.SendFault.{SendFault}
 use Rattle.sender.specs.Published.{published_transactions}

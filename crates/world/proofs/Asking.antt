@@ -8,16 +8,16 @@ use Rattle.wal.specs.declared.record.Record.{Record}
 use Rattle.schedule.specs.declared.answer.Answer.{Answer}
 use Rattle.schedule.specs.declared.answer.Answer.TheVariants as answers
 use Rattle.schedule.specs.declared.fault.WorldFault.{WorldFault}
-use Rattle.starts.specs.declared.action.Action.{Action}
-use Rattle.starts.specs.declared.action.Action.TheVariants as actions
+use Rattle.world.specs.declared.action.Action.{Action}
+use Rattle.world.specs.declared.action.Action.TheVariants as actions
 use Rattle.sender.specs.declared.fault.SendFault.TheVariants as sends
-use Rattle.starts.specs.declared.start.Start.{Start}
+use Rattle.world.specs.declared.start.Start.{Start}
 use Rattle.world.specs.declared.machine.Machine.{Machine}
-use Rattle.starts.specs.State.{StartState}
+use Rattle.world.specs.Start.{StartState}
 use Rattle.world.specs.State.{SubscriberState, open_start}
-use Rattle.starts.specs.Acting.{Acts}
+use Rattle.world.specs.Acting.{Acts}
 use Rattle.world.specs.ConnectionLines.{ActsAt, slots_after, subscribers_after}
-use Rattle.starts.specs.Starts.{start_state}
+use Rattle.world.specs.Starts.{start_state}
 use Rattle.world.specs.Machine.{subscriber_state, ActsIn, IsOpenAt, IsOpenStartAt, IsSubscribed, world_of}
 use Rattle.std.specs.List.{AllByRecursion}
 use Rattle.world.proofs.Inside.{same_inside}

@@ -5,7 +5,7 @@ use Rattle.std.proofs.lemmas.Slice.Eq.{bytes_eq-Decides}
 use Rattle.copyboth.specs.declared.status.Status.{Status}
 use Rattle.slots.specs.declared.fault.SlotFault.{SlotFault}
 use Rattle.slots.specs.declared.fault.SlotFault.TheVariants as slot_faults
-use Rattle.named_slots.specs.State.{NamedSlot, SlotsState, create_refusal, if_named, slot_of, slot_with_confirmed, slot_with_hold, slots_after_create, slots_after_refusal}
+use Rattle.slots.specs.State.{NamedSlot, SlotsState, create_refusal, if_named, slot_of, slot_with_confirmed, slot_with_hold, slots_after_create, slots_after_refusal}
 use Rattle.txlog.specs.Publishing.{log_end}
 use Rattle.publication_config.specs.declared.fault.PubFault.TheVariants as pubs
 use Rattle.schedule.specs.declared.start_options.StartOptions.{StartOptions}
@@ -15,12 +15,12 @@ use Rattle.schedule.specs.declared.event.ConnectionStep.{ConnectionStep}
 use Rattle.schedule.specs.declared.event.ConnectionStep.TheVariants as steps
 use Rattle.schedule.specs.declared.answer.Answer.{Answer}
 use Rattle.schedule.specs.declared.answer.Answer.TheVariants as answers
-use Rattle.starts.specs.State.{StartState}
+use Rattle.world.specs.Start.{StartState}
 use Rattle.world.specs.State.{SubscriberState, WorldState, slot_of_connection, subscriber_of}
 use Rattle.world.specs.ConnectionLines.{IsStart}
-use Rattle.named_slots.specs.Words.{slot_named, slots_after_taking}
+use Rattle.slots.specs.Words.{slot_named, slots_after_taking}
 use Rattle.world.specs.Slots.{Acknowledges, Creates}
-use Rattle.named_slots.specs.Words.{slots_after_confirming, slots_after_letting_go}
+use Rattle.slots.specs.Words.{slots_after_confirming, slots_after_letting_go}
 use Rattle.world.specs.Steps.{IsRun, IsStep, IsStepAt}
 use Rattle.world.specs.Confirming.{confirmed_after, confirmed_at, confirmed_through, next_told_position, raised_by, told_if, told_to}
 

@@ -11,8 +11,8 @@ use Rattle.publication.specs.Publications.{PublicationSet}
 use Rattle.publication.specs.Selection.{relation}
 use Rattle.copyboth.specs.declared.status.Status.{Status}
 use Rattle.pgoutput.specs.declared.relation.Relation.{Relation}
-use Rattle.stream.specs.declared.published.Published.{Published}
-use Rattle.stream.specs.Items.{Item, bytes_of_items}
+use Rattle.pgoutput.specs.declared.published.Published.{Published}
+use Rattle.pgoutput.specs.Items.{Item, bytes_of_items}
 use Rattle.client.specs.declared.fault.ClientFault.{ClientFault}
 use Rattle.client.specs.Subscriber.{Subscriber, subscriber_at_rest}
 use Rattle.client.specs.Taking.{ApplierState, HasTaken, Takes, TakesFrom}
@@ -20,7 +20,7 @@ use Rattle.client.specs.Law.{Ends, Gained}
 use Rattle.client.proofs.Reaching.{reached_none}
 use Rattle.schedule.specs.declared.answer.Answer.{Answer}
 use Rattle.schedule.specs.declared.answer.Answer.TheVariants as answers
-use Rattle.starts.specs.State.{StartState}
+use Rattle.world.specs.Start.{StartState}
 use Rattle.world.specs.State.{SubscriberState, in_pipe}
 use Rattle.world.specs.Law.{IsExact}
 use Rattle.world.specs.Delivering.{AnswersTo, Gets}

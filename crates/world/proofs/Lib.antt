@@ -18,3 +18,6 @@ pub mod Feeding
 pub mod OnceSteps
 pub mod OwnSteps
 pub mod OnceRuns
+pub mod Positions
+pub mod Unread
+pub mod Sections

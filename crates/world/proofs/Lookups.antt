@@ -5,7 +5,7 @@ use Rattle.std.specs.List.{AllByRecursion}
 use Rattle.std.specs.Str.{bytes_eq}
 use Rattle.std.proofs.lemmas.Slice.Eq.{bytes_eq-Decides}
 use Rattle.row_messages.proofs.Rows.{both_true}
-use Rattle.starts.specs.State.{StartState, is_open_for}
+use Rattle.world.specs.Start.{StartState, is_open_for}
 use Rattle.world.specs.State.{SubscriberState, open_start, subscriber_of, with_open_start, with_subscriber}
 use Rattle.world.proofs.Inside.{same_inside}
 

@@ -11,23 +11,23 @@ use Rattle.schedule.specs.declared.answer.Answer.TheVariants as answers
 use Rattle.schedule.specs.declared.fault.WorldFault.{WorldFault}
 use Rattle.schedule.specs.declared.event.Event.{Event}
 use Rattle.schedule.specs.declared.event.Event.TheVariants as events
-use Rattle.starts.specs.declared.action.Action.{Action}
-use Rattle.starts.specs.declared.action.Action.TheVariants as actions
-use Rattle.starts.specs.declared.start.Start.{Start}
-use Rattle.starts.specs.declared.start.Stage.{Stage}
-use Rattle.starts.specs.declared.start.Stage.TheVariants as stages
+use Rattle.world.specs.declared.action.Action.{Action}
+use Rattle.world.specs.declared.action.Action.TheVariants as actions
+use Rattle.world.specs.declared.start.Start.{Start}
+use Rattle.world.specs.declared.start.Stage.{Stage}
+use Rattle.world.specs.declared.start.Stage.TheVariants as stages
 use Rattle.world.specs.declared.machine.Machine.{Machine}
-use Rattle.starts.specs.State.{StartState, running_count}
+use Rattle.world.specs.Start.{StartState, running_count}
 use Rattle.world.specs.State.{SubscriberState, WorldState}
 use Rattle.sessions.specs.SessionLines.{IsLine}
 use Rattle.sessions.specs.Sessions.{Grows}
-use Rattle.named_slots.specs.State.{SlotsState}
-use Rattle.starts.specs.Acting.{Acts}
+use Rattle.slots.specs.State.{SlotsState}
+use Rattle.world.specs.Acting.{Acts}
 use Rattle.world.specs.ConnectionLines.{slots_after, subscribers_after}
 use Rattle.world.specs.Steps.{IsStep, session_state}
-use Rattle.starts.specs.Starts.{IsServed, is_open, start_state, state_with}
+use Rattle.world.specs.Starts.{IsServed, is_open, start_state, state_with}
 use Rattle.world.specs.Machine.{ActsIn, IsMachine, IsOpenAt, IsOpenStartAt, open_places, without_place}
-use Rattle.starts.proofs.Sections.{grown_served}
+use Rattle.world.proofs.Sections.{grown_served}
 use Rattle.world.proofs.Openings.{places_kept, places_less, places_with_one}
 use Rattle.world.proofs.Readers.{one_runs, running_with}
 use Rattle.world.proofs.Asking.{one_there}

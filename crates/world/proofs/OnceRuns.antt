@@ -24,8 +24,8 @@ use Rattle.schedule.specs.declared.event.ConnectionStep.TheVariants as connectio
 use Rattle.schedule.specs.declared.event.Literal.{Literal}
 use Rattle.sessions.specs.Transactions.{NamedTx, xid_of}
 use Rattle.sessions.specs.SessionLines.{Ask, IsCalled, SessionState, after_step, asks, deleted_in, if_known, if_new, inserted_in, note_ask, oids_named, step_ask, truncated_in, updated_in}
-use Rattle.named_slots.specs.State.{SlotsState, slot_of}
-use Rattle.starts.specs.State.{StartState}
+use Rattle.slots.specs.State.{SlotsState, slot_of}
+use Rattle.world.specs.Start.{StartState}
 use Rattle.configuration.specs.Setting.{Setting}
 use Rattle.world.specs.State.{SubscriberState, WorldState, new_world, open_start, subscriber_of}
 use Rattle.world.specs.Law.{Headline, IsExact}
@@ -39,8 +39,8 @@ use Rattle.world.proofs.Runs.{joined}
 use Rattle.world.proofs.Inside.{same_inside}
 use Rattle.world.proofs.Lookups as look
 use Rattle.world.proofs.Feeding.{IsFed, fed_grown}
-use Rattle.stream.specs.declared.published.Published.{Published}
-use Rattle.stream.specs.Items.{bytes_of_items}
+use Rattle.pgoutput.specs.declared.published.Published.{Published}
+use Rattle.pgoutput.specs.Items.{bytes_of_items}
 use Rattle.publication.specs.Selection.{relation}
 use Rattle.sender.specs.Published.{published_transactions}
 use Rattle.client.specs.Subscriber.{Subscriber}

@@ -7,20 +7,20 @@ use Rattle.wal.specs.declared.record.Record.{Record}
 use Rattle.wal.specs.Restart.{restart}
 use Rattle.publication.specs.Publications.{PublicationSet}
 use Rattle.publication_config.specs.declared.fault.PubFault.TheVariants as pubs
-use Rattle.stream.specs.declared.published.Published.{Published}
-use Rattle.stream.proofs.Lists.{all_of_both}
+use Rattle.pgoutput.specs.declared.published.Published.{Published}
+use Rattle.pgoutput.proofs.Lists.{all_of_both}
 use Rattle.sender.specs.declared.fault.SendFault.TheVariants as sends
 use Rattle.schedule.specs.declared.start_options.StartOptions.{StartOptions}
 use Rattle.schedule.specs.declared.answer.Answer.{Answer}
 use Rattle.schedule.specs.declared.answer.Answer.TheVariants as answers
 use Rattle.schedule.specs.declared.event.ConnectionStep.{ConnectionStep}
 use Rattle.schedule.specs.declared.event.ConnectionStep.TheVariants as steps
-use Rattle.named_slots.specs.State.{SlotsState}
-use Rattle.named_slots.specs.Words.{slot_named, slots_after_confirming, start_from}
-use Rattle.starts.specs.State.{StartState}
-use Rattle.starts.specs.Acting.{Acts, new_start}
-use Rattle.starts.specs.declared.action.Action.{Action}
-use Rattle.starts.specs.declared.action.Action.TheVariants as actions
+use Rattle.slots.specs.State.{SlotsState}
+use Rattle.slots.specs.Words.{slot_named, slots_after_confirming, start_from}
+use Rattle.world.specs.Start.{StartState}
+use Rattle.world.specs.Acting.{Acts, new_start}
+use Rattle.world.specs.declared.action.Action.{Action}
+use Rattle.world.specs.declared.action.Action.TheVariants as actions
 use Rattle.world.specs.State.{SubscriberState, WorldState, if_known_again, if_there, new_subscriber, open_start, slot_of_connection, subscriber_connected_again, subscriber_of, subscribers_after_reconnect, with_one_for, with_subscriber}
 use Rattle.world.specs.ConnectionLines.{wanted_of, ActsAt, IsStart, slots_after, start_refusal, world_after_start, subscribers_after}
 use Rattle.world.specs.Steps.{IsStepAt}

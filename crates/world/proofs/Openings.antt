@@ -4,12 +4,12 @@ use Rattle.std.specs.Prelude.{IsNone, is_some, slice_get, slice_set}
 use Rattle.std.specs.Str.{bytes_eq}
 use Rattle.std.proofs.lemmas.Bool.{eq-eqb, ne_eqb}
 use Rattle.std.proofs.lemmas.List.{length-append}
-use Rattle.starts.specs.declared.start.Start.{Start}
-use Rattle.starts.specs.declared.start.Stage.{Stage}
-use Rattle.starts.specs.declared.start.Stage.TheVariants as stages
-use Rattle.starts.specs.State.{StartState, is_open_for}
+use Rattle.world.specs.declared.start.Start.{Start}
+use Rattle.world.specs.declared.start.Stage.{Stage}
+use Rattle.world.specs.declared.start.Stage.TheVariants as stages
+use Rattle.world.specs.Start.{StartState, is_open_for}
 use Rattle.world.specs.State.{open_start}
-use Rattle.starts.specs.Starts.{start_state, state_with, is_open}
+use Rattle.world.specs.Starts.{start_state, state_with, is_open}
 use Rattle.world.specs.Machine.{start_place, open_places, is_for, place_among, without_place, IsOpenStartAt}
 use Rattle.world.proofs.Inside.{same_inside, place_is}
 use Rattle.row_messages.proofs.Rows.{both_true}

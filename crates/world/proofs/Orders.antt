@@ -10,7 +10,7 @@ use Rattle.wal.specs.declared.record.Body.{Body}
 use Rattle.wal.specs.declared.record.Body.TheVariants.{Assign, Change as Changed, AbortSub, Abort, Commit, Note}
 use Rattle.wal.specs.Log.{IsSized, Transaction, note_as_transaction, committed_at, end_of, follows, kept_changes}
 use Rattle.publication.specs.Publications.{PublicationSet}
-use Rattle.stream.specs.declared.published.Published.{Published}
+use Rattle.pgoutput.specs.declared.published.Published.{Published}
 use Rattle.sender.specs.Published.{has_message, published_as, published_from}
 use Rattle.sender.proofs.Batches.{published_from-append}
 use Rattle.sender.proofs.Sections.{followed}

@@ -7,18 +7,18 @@ use Rattle.wal.specs.Log.{IsWellFormedLog}
 use Rattle.wal.specs.Restart.{restart}
 use Rattle.publication.specs.Publications.{PublicationSet}
 use Rattle.copyboth.specs.declared.status.Status.{Status}
-use Rattle.stream.specs.declared.published.Published.{Published}
-use Rattle.stream.proofs.Lists.{all_of_both}
+use Rattle.pgoutput.specs.declared.published.Published.{Published}
+use Rattle.pgoutput.proofs.Lists.{all_of_both}
 use Rattle.schedule.specs.declared.start_options.StartOptions.{StartOptions}
 use Rattle.schedule.specs.declared.answer.Answer.{Answer}
 use Rattle.schedule.specs.declared.event.ConnectionStep.{ConnectionStep}
 use Rattle.schedule.specs.declared.event.ConnectionStep.TheVariants as steps
-use Rattle.named_slots.specs.State.{NamedSlot, SlotsState, confirmed_of, slot_of}
-use Rattle.named_slots.specs.Words.{slot_named, slots_after_confirming, slots_after_letting_go, slots_after_taking, start_from}
-use Rattle.starts.specs.State.{StartState}
-use Rattle.starts.specs.Acting.{new_start}
-use Rattle.starts.specs.declared.action.Action.{Action}
-use Rattle.starts.specs.declared.action.Action.TheVariants as actions
+use Rattle.slots.specs.State.{NamedSlot, SlotsState, confirmed_of, slot_of}
+use Rattle.slots.specs.Words.{slot_named, slots_after_confirming, slots_after_letting_go, slots_after_taking, start_from}
+use Rattle.world.specs.Start.{StartState}
+use Rattle.world.specs.Acting.{new_start}
+use Rattle.world.specs.declared.action.Action.{Action}
+use Rattle.world.specs.declared.action.Action.TheVariants as actions
 use Rattle.world.specs.State.{SubscriberState, WorldState, if_known_again, if_there, new_subscriber, open_start, slot_of_connection, subscriber_connected_again, subscriber_of, with_open_start, with_subscriber}
 use Rattle.world.specs.Law.{Headline, IsExact}
 use Rattle.world.specs.ConnectionLines.{wanted_of, ActsAt, start_refusal, world_after_start, subscribers_after}

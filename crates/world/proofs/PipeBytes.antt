@@ -26,7 +26,7 @@ use Rattle.copyboth.specs.declared.fault.CopyFault.{CopyFault}
 use Rattle.copyboth.specs.Keepalive.{ask_byte}
 use Rattle.copyboth.specs.Status.{SpellsStatus, status}
 use Rattle.copyboth.proofs.Bodies.{client_again}
-use Rattle.stream.proofs.Lists.{all_of_both}
+use Rattle.pgoutput.proofs.Lists.{all_of_both}
 use Rattle.world.specs.PipeBack.{IsPipe, IsSpelled, before, status_frame, statuses_at, statuses_in, told_by}
 use Rattle.world.specs.Slots.{is_waiting}
 

@@ -4,16 +4,16 @@ use Rattle.std.specs.Prelude.{◌&&◌, Result, Ok, Err, IsNone, OnErr, OnOk, is
 use Rattle.std.proofs.lemmas.Option.{slice_get_read, slice_get_within}
 use Rattle.std.proofs.Math.Seq.{map-set_same}
 use Rattle.copyboth.specs.declared.status.Status.{Status}
-use Rattle.named_slots.specs.State.{SlotsState}
+use Rattle.slots.specs.State.{SlotsState}
 use Rattle.schedule.specs.declared.answer.Answer.TheVariants as answers
 use Rattle.world.specs.declared.machine.Machine.{Machine}
-use Rattle.starts.specs.declared.start.Start.{Start}
+use Rattle.world.specs.declared.start.Start.{Start}
 use Rattle.world.specs.declared.subscriber.Subscriber.{Subscriber}
 use Rattle.world.specs.State.{SubscriberState, subscriber_of, with_subscriber}
 use Rattle.world.specs.Slots.{Acknowledges, PutsBack, has_status, is_waiting, status_with}
-use Rattle.named_slots.specs.Words.{slots_after_confirming}
+use Rattle.slots.specs.Words.{slots_after_confirming}
 use Rattle.world.specs.Machine.{IsOpenStartAt, IsSubscriberAt, subscriber_state, world_of}
-use Rattle.starts.specs.Starts.{start_state}
+use Rattle.world.specs.Starts.{start_state}
 use Rattle.world.proofs.Inside.{same_inside}
 use Rattle.world.proofs.Subscribing.{no_subscriber, placed, subscriber_at, the_one}
 use Rattle.world.specs.Machine.{subscriber_place}

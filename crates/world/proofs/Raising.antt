@@ -7,11 +7,11 @@ use Rattle.pgoutput.specs.declared.begin.Begin.{Begin}
 use Rattle.pgoutput.specs.declared.commit.Commit.{Commit}
 use Rattle.pgoutput.specs.declared.relation.Relation.{Relation}
 use Rattle.pgoutput.specs.declared.message.Message.{Message}
-use Rattle.logical.specs.declared.logical.Logical.{Logical}
-use Rattle.logical.specs.declared.logical.Logical.TheVariants as logical
-use Rattle.stream.specs.declared.word.Word.{Word}
-use Rattle.stream.specs.declared.word.Word.TheVariants as words
-use Rattle.stream.specs.declared.word.Keepalive.{Keepalive}
+use Rattle.pgoutput.specs.declared.logical.Logical.{Logical}
+use Rattle.pgoutput.specs.declared.logical.Logical.TheVariants as logical
+use Rattle.pgoutput.specs.declared.word.Word.{Word}
+use Rattle.pgoutput.specs.declared.word.Word.TheVariants as words
+use Rattle.pgoutput.specs.declared.word.Keepalive.{Keepalive}
 use Rattle.client.specs.declared.fault.ClientFault.{ClientFault}
 use Rattle.client.specs.declared.fault.ClientFault.TheVariants.{Order}
 use Rattle.client.specs.Subscriber.{HalfTransaction, Subscriber, after_begin, after_change, after_commit, after_keepalive, after_logical_message, after_message, after_note, after_relation, after_transaction, after_word, after_words, judgement_of_change, note_of, tables_with_relation, with_change}

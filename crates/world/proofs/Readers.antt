@@ -2,7 +2,7 @@
 use Rattle.std.proofs.Common.{◌≡◌, ◌+◌, ◌≤◌, ℕ, zero, suc, Bool, true, false, cond, List, [], ◌∷◌, ◌++◌, Some, refl, ap, sym, ◌∙◌, arith, reverse}
 use Rattle.std.specs.Prelude.{slice_get, slice_set}
 use Rattle.std.proofs.lemmas.List.{reverse-append}
-use Rattle.starts.specs.State.{StartState, running_count}
+use Rattle.world.specs.Start.{StartState, running_count}
 use Rattle.world.proofs.Inside.{same_inside}
 
 -- one start in the place of another

@@ -5,16 +5,16 @@ use Rattle.std.proofs.lemmas.Bool.{cases_eq}
 use Rattle.publication_config.specs.declared.fault.PubFault.{PubFault}
 use Rattle.publication_config.specs.declared.fault.PubFault.TheVariants as pubs
 use Rattle.publication.specs.Publications.{PublicationSet}
-use Rattle.publications.specs.Publications.{conflicts, is_unknown, judgement_of_names, selected_publications}
+use Rattle.publication.specs.Choosing.{conflicts, is_unknown, judgement_of_names, selected_publications}
 use Rattle.slots.specs.declared.fault.SlotFault.TheVariants as slot_faults
 use Rattle.schedule.specs.declared.answer.Answer.{Answer}
 use Rattle.schedule.specs.declared.answer.Answer.TheVariants as answers
 use Rattle.walsender.specs.declared.beginning.StartFault.{StartFault}
 use Rattle.walsender.specs.declared.beginning.StartFault.TheVariants as faults
 use Rattle.walsender.specs.Beginning.{AreAsked, fault_of, questions}
-use Rattle.named_slots.specs.State.{SlotsState}
-use Rattle.named_slots.specs.Words.{is_held, is_missing, slot_named}
-use Rattle.starts.specs.State.{running_count}
+use Rattle.slots.specs.State.{SlotsState}
+use Rattle.slots.specs.Words.{is_held, is_missing, slot_named}
+use Rattle.world.specs.Start.{running_count}
 use Rattle.world.specs.declared.limits.TheConstants.{MAX_SENDERS}
 use Rattle.world.specs.declared.starting.StartFacts.{StartFacts}
 use Rattle.world.specs.State.{WorldState}

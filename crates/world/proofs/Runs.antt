@@ -9,25 +9,25 @@ use Rattle.wal.specs.declared.record.Record.{Record}
 use Rattle.wal.specs.Log.{IsWellFormedLog, end_of}
 use Rattle.publication.specs.Publications.{PublicationSet}
 use Rattle.publication.specs.Selection.{relation}
-use Rattle.stream.specs.Stream.{IsStream}
+use Rattle.pgoutput.specs.Stream.{IsStream}
 use Rattle.sender.specs.Published.{published_transactions}
 use Rattle.sender.specs.Sending.{SenderState}
 use Rattle.schedule.specs.declared.answer.Answer.{Answer}
 use Rattle.schedule.specs.declared.event.Event.{Event}
 use Rattle.schedule.specs.declared.fault.WorldFault.{WorldFault}
 use Rattle.schedule.specs.declared.fault.WorldFault.TheVariants as worlds
-use Rattle.starts.specs.declared.start.Start.{Start}
-use Rattle.starts.specs.declared.start.Stage.{Stage}
-use Rattle.starts.specs.declared.start.Stage.TheVariants as stages
+use Rattle.world.specs.declared.start.Start.{Start}
+use Rattle.world.specs.declared.start.Stage.{Stage}
+use Rattle.world.specs.declared.start.Stage.TheVariants as stages
 use Rattle.world.specs.declared.machine.Machine.{Machine}
 use Rattle.world.specs.State.{WorldState}
-use Rattle.starts.specs.Acting.{read_by}
+use Rattle.world.specs.Acting.{read_by}
 use Rattle.world.specs.Law.{IsExact, Headline}
 use Rattle.world.specs.Steps.{IsStep, is_bad, is_read, takes_memory, IsRun, StopsAt}
 use Rattle.walsender.specs.Serving.{IsStreaming}
-use Rattle.starts.specs.Starts.{IsServed, IsServedBy, state_with, start_state}
+use Rattle.world.specs.Starts.{IsServed, IsServedBy, state_with, start_state}
 use Rattle.world.specs.Machine.{IsMachine, world_of}
-use Rattle.starts.proofs.Positions.{read_by_place}
+use Rattle.world.proofs.Positions.{read_by_place}
 
 -- what was read up to a place is what was read by a position
 read_so_far : (log : List Record) (count : ℕ) (produced : List ℕ) (s : SenderState) → IsWellFormedLog log → IsStreaming log count produced s → take count log ≡ read_by s.position log

@@ -11,16 +11,16 @@ use Rattle.wal.specs.Log.{IsSized, IsWellFormedLog, end_of}
 use Rattle.wal.proofs.Laws.{all_when, end_of-append}
 use Rattle.publication.specs.Publications.{PublicationSet}
 use Rattle.publication.specs.Selection.{relation}
-use Rattle.stream.specs.declared.published.Published.{Published}
-use Rattle.stream.specs.Items.{Block, Item, KeepaliveItem, transactions_of}
-use Rattle.stream.specs.Stream.{AreSafeKeepalives}
-use Rattle.stream.proofs.Lists.{all_of_both}
+use Rattle.pgoutput.specs.declared.published.Published.{Published}
+use Rattle.pgoutput.specs.Items.{Block, Item, KeepaliveItem, transactions_of}
+use Rattle.pgoutput.specs.Stream.{AreSafeKeepalives}
+use Rattle.pgoutput.proofs.Lists.{all_of_both}
 use Rattle.sender.specs.Published.{published_from, published_transactions}
 use Rattle.sender.proofs.Batches.{published_from-append}
 use Rattle.sender.proofs.Sections.{all_back, all_front, follows_parts, starts_below}
 use Rattle.client.specs.Subscriber.{Subscriber}
 use Rattle.client.specs.Law.{Gained, gained_transactions, position_after}
-use Rattle.starts.specs.Acting.{read_by}
+use Rattle.world.specs.Acting.{read_by}
 use Rattle.world.proofs.Orders.{InOrder, all_below, all_from, below, below-append, in_order, in_order_behind, in_order_within, late_all, late_part, none_below, parted}
 
 -- ---- Items one by one.

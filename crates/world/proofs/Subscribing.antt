@@ -7,16 +7,16 @@ use Rattle.std.proofs.lemmas.List.{map-set}
 use Rattle.std.proofs.lemmas.Option.{slice_get_read, slice_get_within}
 use Rattle.schedule.specs.declared.answer.Answer.{Answer}
 use Rattle.world.specs.declared.machine.Machine.{Machine}
-use Rattle.starts.specs.declared.start.Start.{Start}
+use Rattle.world.specs.declared.start.Start.{Start}
 use Rattle.world.specs.declared.subscriber.Subscriber.{Subscriber}
 use Rattle.world.specs.Delivering.{Gets, Delivers}
-use Rattle.starts.specs.State.{StartState, is_open_for}
+use Rattle.world.specs.Start.{StartState, is_open_for}
 use Rattle.world.specs.State.{SubscriberState, new_subscriber, subscriber_of, with_subscriber, if_there, with_one_for, subscriber_connected_again, if_known_again, subscribers_after_reconnect, slot_in, slot_of_connection, open_start, with_open_start}
 use Rattle.world.specs.Machine.{world_of, subscriber_state, subscriber_place, IsOpenStartAt, IsSubscriberAt, IsSubscribed}
-use Rattle.starts.specs.Starts.{start_state}
+use Rattle.world.specs.Starts.{start_state}
 use Rattle.std.proofs.lemmas.List.{append-nil}
 use Rattle.tables.proofs.Names.{bytes_eq-after}
-use Rattle.stream.proofs.Lists.{all_of_both}
+use Rattle.pgoutput.proofs.Lists.{all_of_both}
 use Rattle.row_messages.proofs.Rows.{both_true}
 use Rattle.std.proofs.lemmas.Slice.Eq.{bytes_eq-Decides}
 use Rattle.world.proofs.Inside.{same_inside, place_is}

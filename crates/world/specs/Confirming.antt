@@ -3,14 +3,14 @@
 use Rattle.std.specs.Prelude.{ℕ, max, min, List, [], ◌∷◌, Option, Some, None, option_map, if◌then◌else◌}
 use Rattle.std.specs.Str.{bytes_eq}
 use Rattle.copyboth.specs.declared.status.Status.{Status}
-use Rattle.named_slots.specs.State.{SlotsState, slot_of}
+use Rattle.slots.specs.State.{SlotsState, slot_of}
 use Rattle.txlog.specs.Publishing.{log_end}
 use Rattle.schedule.specs.declared.event.Event.{Event}
 use Rattle.schedule.specs.declared.event.Event.TheVariants as events
 use Rattle.schedule.specs.declared.event.ConnectionStep.TheVariants as steps
 use Rattle.schedule.specs.declared.answer.Answer.{Answer}
 use Rattle.schedule.specs.declared.answer.Answer.TheVariants as answers
-use Rattle.starts.specs.State.{StartState}
+use Rattle.world.specs.Start.{StartState}
 use Rattle.world.specs.State.{SubscriberState, WorldState, open_start, subscriber_of}
 use Rattle.world.specs.Steps.{IsRun}
 

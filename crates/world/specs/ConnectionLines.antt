@@ -2,19 +2,19 @@
 use Rattle.std.specs.Prelude.{◌≡◌, ◌==◌, ℕ, List, [], ◌∷◌, ◌++◌, Option, Some, None, if◌then◌else◌}
 use Rattle.publication_config.specs.declared.fault.PubFault.TheVariants as pubs
 use Rattle.publication.specs.Publications.{PublicationSet}
-use Rattle.publications.specs.Publications.{conflicts, selected_publications, is_unknown}
+use Rattle.publication.specs.Choosing.{conflicts, selected_publications, is_unknown}
 use Rattle.schedule.specs.declared.answer.Answer.{Answer}
 use Rattle.schedule.specs.declared.start_options.StartOptions.{StartOptions}
 use Rattle.schedule.specs.declared.answer.Answer.TheVariants as answers
-use Rattle.starts.specs.declared.action.Action.{Action}
-use Rattle.starts.specs.declared.action.Action.TheVariants as actions
-use Rattle.named_slots.specs.State.{SlotsState}
+use Rattle.world.specs.declared.action.Action.{Action}
+use Rattle.world.specs.declared.action.Action.TheVariants as actions
+use Rattle.slots.specs.State.{SlotsState}
 use Rattle.slots.specs.declared.fault.SlotFault.TheVariants as slot_faults
-use Rattle.starts.specs.State.{StartState, running_count}
+use Rattle.world.specs.Start.{StartState, running_count}
 use Rattle.world.specs.State.{SubscriberState, WorldState, open_start, with_open_start, with_one_for, subscribers_after_reconnect, slot_of_connection}
-use Rattle.named_slots.specs.Words.{is_held, is_missing, slots_after_letting_go, slots_after_taking, start_from}
+use Rattle.slots.specs.Words.{is_held, is_missing, slots_after_letting_go, slots_after_taking, start_from}
 use Rattle.wal.specs.Restart.{restart}
-use Rattle.starts.specs.Acting.{Acts, new_start}
+use Rattle.world.specs.Acting.{Acts, new_start}
 use Rattle.world.specs.declared.limits.TheConstants.{MAX_SENDERS}
 
 -- where the connection is cut, its subscriber reconnects

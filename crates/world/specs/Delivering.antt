@@ -3,7 +3,7 @@ use Rattle.std.specs.Prelude.{◌≡◌, ℕ, ◌+◌, ◌||◌, nat_lt, List, l
 use Rattle.client.specs.Taking.{ApplierState, Takes}
 use Rattle.schedule.specs.declared.answer.Answer.{Answer}
 use Rattle.schedule.specs.declared.answer.Answer.TheVariants as answers
-use Rattle.starts.specs.State.{StartState}
+use Rattle.world.specs.Start.{StartState}
 use Rattle.world.specs.State.{SubscriberState, WorldState, in_pipe, open_start, subscriber_of, with_subscriber}
 
 -- what an applier answers to the bytes: Done, or its fault

@@ -7,10 +7,10 @@ use Rattle.wal.specs.declared.record.TheConstants.{FIRST_POSITION}
 use Rattle.wal.specs.declared.record.Record.{Record}
 use Rattle.wal.specs.Log.{end_of}
 use Rattle.publication.specs.Selection.{relation}
-use Rattle.stream.specs.Stream.{IsStream}
+use Rattle.pgoutput.specs.Stream.{IsStream}
 use Rattle.sender.specs.Published.{published_transactions}
-use Rattle.starts.specs.State.{StartState}
-use Rattle.starts.specs.Acting.{read_by}
+use Rattle.world.specs.Start.{StartState}
+use Rattle.world.specs.Acting.{read_by}
 use Rattle.world.specs.State.{WorldState}
 
 -- The bytes are a stream encoding of what the start publishes of the records that it has read.

@@ -10,3 +10,6 @@ pub mod Confirming
 pub mod Machine
 pub mod Ending
 pub mod Once
+pub mod Start
+pub mod Acting
+pub mod Starts

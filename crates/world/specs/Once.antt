@@ -5,8 +5,8 @@ use Rattle.std.specs.Prelude.{◌≡◌, ◌≤◌, ℕ, max, List, [], ◌∷�
 use Rattle.std.specs.List.{AllByRecursion}
 use Rattle.std.specs.Str.{bytes_eq}
 use Rattle.publication.specs.Selection.{relation}
-use Rattle.stream.specs.declared.published.Published.{Published}
-use Rattle.stream.specs.Items.{Item, bytes_of_items}
+use Rattle.pgoutput.specs.declared.published.Published.{Published}
+use Rattle.pgoutput.specs.Items.{Item, bytes_of_items}
 use Rattle.sender.specs.Published.{published_transactions}
 use Rattle.client.specs.Subscriber.{subscriber_at_rest}
 use Rattle.client.specs.Law.{GainedAll}
@@ -18,8 +18,8 @@ use Rattle.schedule.specs.declared.event.ConnectionStep.{ConnectionStep}
 use Rattle.schedule.specs.declared.event.ConnectionStep.TheVariants as steps
 use Rattle.schedule.specs.declared.answer.Answer.{Answer}
 use Rattle.schedule.specs.declared.answer.Answer.TheVariants as answers
-use Rattle.named_slots.specs.Words.{slot_named}
-use Rattle.starts.specs.State.{StartState}
+use Rattle.slots.specs.Words.{slot_named}
+use Rattle.world.specs.Start.{StartState}
 use Rattle.world.specs.State.{SubscriberState, WorldState, open_start, subscriber_of}
 use Rattle.world.specs.Confirming.{confirmed_at}
 use Rattle.world.specs.ConnectionLines.{wanted_of}

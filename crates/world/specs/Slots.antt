@@ -1,12 +1,12 @@
 -- Slots in a world: creating one, the statuses that subscribers send back, and what acknowledging one does.
 use Rattle.std.specs.Prelude.{◌≡◌, ◌∷◌, ◌++◌, ℕ, ℤ, [], true, false, min, Bool, List, Option, Some, None}
-use Rattle.named_slots.specs.State.{IsRefusalOrMemory, create_refusal, slots_after_create, slots_after_refusal}
-use Rattle.named_slots.specs.Words.{slots_after_confirming}
+use Rattle.slots.specs.State.{IsRefusalOrMemory, create_refusal, slots_after_create, slots_after_refusal}
+use Rattle.slots.specs.Words.{slots_after_confirming}
 use Rattle.txlog.specs.Publishing.{log_end}
 use Rattle.copyboth.specs.declared.status.Status.{Status}
 use Rattle.schedule.specs.declared.answer.Answer.{Answer}
 use Rattle.schedule.specs.declared.answer.Answer.TheVariants as answers
-use Rattle.starts.specs.State.{StartState}
+use Rattle.world.specs.Start.{StartState}
 use Rattle.world.specs.State.{SubscriberState, WorldState, open_start, subscriber_of, with_subscriber}
 
 -- a slot is created at the end of the log

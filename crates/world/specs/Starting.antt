@@ -1,16 +1,16 @@
 -- What a start is judged by, and one that isn't refused, with what its publications select.
 use Rattle.std.specs.Prelude.{◌≡◌, ℕ, not, Bool, List, [], ◌∷◌, ◌++◌, Option, Some, None, if◌then◌else◌}
 use Rattle.publication.specs.Publications.{PublicationSet}
-use Rattle.publications.specs.Publications.{judgement_of_names}
+use Rattle.publication.specs.Choosing.{judgement_of_names}
 use Rattle.slots.specs.declared.fault.SlotFault.TheVariants as slot_faults
 use Rattle.walsender.specs.declared.beginning.ClaimFault.{ClaimFault}
 use Rattle.walsender.specs.declared.beginning.ClaimFault.TheVariants as claims
 use Rattle.walsender.specs.Beginning.{Question, FindsSlot, Judges, TakesReader, Claims, fault_of}
 use Rattle.world.specs.declared.starting.StartFacts.{StartFacts}
 use Rattle.world.specs.State.{WorldState, with_one_for}
-use Rattle.named_slots.specs.Words.{is_held, is_missing, slot_named, slots_after_taking, start_from}
+use Rattle.slots.specs.Words.{is_held, is_missing, slot_named, slots_after_taking, start_from}
 use Rattle.wal.specs.Restart.{restart}
-use Rattle.starts.specs.Acting.{new_start}
+use Rattle.world.specs.Acting.{new_start}
 
 -- ---- What it is judged by.
 

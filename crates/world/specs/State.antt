@@ -5,13 +5,13 @@ use Rattle.std.specs.Str.{bytes_eq}
 use Rattle.txlog.specs.Publishing.{PublisherState, new_publisher}
 use Rattle.sessions.specs.Transactions.{NamedTx}
 use Rattle.publication.specs.Publications.{PublicationSet}
-use Rattle.named_slots.specs.State.{SlotsState, no_slots}
+use Rattle.slots.specs.State.{SlotsState, no_slots}
 use Rattle.copyboth.specs.declared.status.Status.{Status}
 use Rattle.client.specs.Subscriber.{subscriber_at_rest}
 use Rattle.client.specs.Taking.{ApplierState}
 use Rattle.schedule.specs.declared.answer.Answer.{Answer}
 use Rattle.configuration.specs.Setting.{Setting}
-use Rattle.starts.specs.State.{StartState, is_open_for}
+use Rattle.world.specs.Start.{StartState, is_open_for}
 
 -- The subscriber of a connection, which outlives the connection's starts: the slot that its open start streams from, if any,
 -- how many bytes of those that the open start has produced were delivered to it, whether ever a byte was, and the statuses in

@@ -7,11 +7,11 @@ use Rattle.schedule.specs.declared.event.ConnectionStep.TheVariants as steps
 use Rattle.schedule.specs.declared.answer.Answer.{Answer}
 use Rattle.schedule.specs.declared.fault.WorldFault.{WorldFault}
 use Rattle.schedule.specs.declared.fault.WorldFault.TheVariants as worlds
-use Rattle.starts.specs.declared.action.Action.TheVariants as actions
+use Rattle.world.specs.declared.action.Action.TheVariants as actions
 use Rattle.world.specs.State.{WorldState, open_start, subscriber_of}
 use Rattle.sessions.specs.SessionLines.{Ask, SessionState, ask_of, IsCalled, line_takes_memory}
 use Rattle.world.specs.ConnectionLines.{ActsAt, IsStart, start_refusal}
-use Rattle.named_slots.specs.Words.{slot_named}
+use Rattle.slots.specs.Words.{slot_named}
 use Rattle.replcmd.specs.Words.{is_slot_name}
 use Rattle.world.specs.Slots.{Acknowledges, Creates, PutsBack, has_status, status_with}
 use Rattle.world.specs.Delivering.{Delivers}

@@ -5,22 +5,26 @@
 //! `World::starts` what each start of a sender produced.
 #![tactic(auto)]
 
+mod action;
 mod limits;
 mod machine;
 mod opening;
 mod pipe_back;
+mod reading;
+mod start;
 mod starting;
 mod statuses;
 mod subscriber;
 mod world;
 
+pub use action::Action;
 pub use limits::MAX_SENDERS;
-pub use named_slots::Slot;
+pub use reading::resume;
 pub use schedule::{
     Answer, BadEvent, ConnectionStep, Event, LineFault, Literal, Schedule, SessionStep, WorldFault,
 };
 pub use sessions::Sessions;
-pub use slots::SlotFault;
-pub use starts::Start;
+pub use slots::{Slot, SlotFault};
+pub use start::Start;
 pub use subscriber::Subscriber;
 pub use world::{RunFault, World};

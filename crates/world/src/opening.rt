@@ -2,11 +2,11 @@
 
 ghost use Rattle.std.specs.Prelude.{◌≡◌, map, slice_get};
 ghost use Rattle.world.specs.Machine.{is_for, place_among, without_place};
-ghost use Rattle.starts.specs.Starts.{start_state};
+ghost use Rattle.world.specs.Starts.{start_state};
 
+use crate::start::Start;
 use pqformat::Text;
 use shared_log::LogName;
-use starts::Start;
 
 /// The place of the open start of the connection, among the places of the open starts.
 pub(crate) fn place_among<L: LogName>(

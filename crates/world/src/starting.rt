@@ -2,24 +2,23 @@
 
 ghost use Rattle.std.specs.Prelude.{◌≡◌, ◌≢◌, ◌<◌, ◌++◌, ◌∷◌, [], None, Err, IfOk, IsNone, IsSome, OnErr, OnOk, false, vec_len};
 ghost use Rattle.wal.specs.Restart.{restart};
-ghost use Rattle.named_slots.specs.Words.{is_held, is_missing, slot_named, start_from};
-ghost use Rattle.starts.specs.Acting.{new_start};
+ghost use Rattle.slots.specs.Words.{is_held, is_missing, slot_named, start_from};
+ghost use Rattle.world.specs.Acting.{new_start};
 ghost use Rattle.world.specs.State.{new_subscriber, open_start, with_one_for};
 ghost use Rattle.world.specs.ConnectionLines.{IsStart, start_refusal};
 ghost use Rattle.world.specs.Starting.{Told, world_after_start_with};
 ghost use Rattle.world.specs.Machine.{HasRoom, IsMachine, IsResumed, subscriber_state, world_of};
 
 use crate::machine::Machine;
+use crate::reading::resume;
+use crate::start::Start;
 use crate::subscriber::{Subscriber, subscribe};
 use chgarena::Arena;
-use named_slots::{HeldSlots, is_held, is_missing, slot_named, start_from, take};
 use pqformat::Text;
-use publication::Selection;
-use publications::{PubFault, Publications};
+use publication::{PubFault, Publications, Selection};
 use schedule::{Answer, StartOptions, WorldFault};
 use shared_log::LogName;
-use slots::{SlotFault, SlotName};
-use starts::{Start, resume};
+use slots::{HeldSlots, SlotFault, SlotName, is_held, is_missing, slot_named, start_from, take};
 use std::alloc::{AllocError, Global};
 use walsender::{ClaimFault, StartDesk, StartFault, begin};
 

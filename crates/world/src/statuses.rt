@@ -7,11 +7,10 @@ ghost use Rattle.world.specs.Machine.{IsMachine, world_of};
 
 use crate::machine::Machine;
 use crate::subscriber::has_status;
-use named_slots::confirm;
 use pqformat::Text;
 use schedule::{Answer, WorldFault};
 use shared_log::LogName;
-use slots::SlotName;
+use slots::{SlotName, confirm};
 
 impl<L: LogName + SlotName> Machine<L> {
     /// Creates a slot at the end of the log.

@@ -14,10 +14,10 @@ use crate::pipe_back::PipeBack;
 use client::Applier;
 use copyboth::Status;
 use indexmap::IndexSet;
+use pgoutput::Published;
 use pqformat::Text;
 use schedule::Answer;
 use std::alloc::{AllocError, Global};
-use stream::Published;
 use wal::part;
 
 /// The subscriber of a connection, for the whole run: each start of the connection's sender sends to it.

@@ -1,25 +1,24 @@
 //! A run of events over the whole publisher.
 
 ghost use Rattle.std.specs.Prelude.{◌≡◌, ◌<◌, ◌↔◌, ◌++◌, ◌∷◌, [], ℕ, List, None, true, map, Err, IfOk, IfErr, OnErr, OnOk, vec_capacity, vec_len};
-ghost use Rattle.named_slots.specs.Keeping.{confirmed_slot};
+ghost use Rattle.slots.specs.Keeping.{confirmed_slot};
 ghost use Rattle.world.specs.State.{new_world};
 ghost use Rattle.world.specs.Law.{Headline};
 ghost use Rattle.world.specs.Confirming.{confirmed_at, confirmed_through};
 ghost use Rattle.world.specs.Once.{RunsOnce};
 ghost use Rattle.world.specs.Steps.{IsRun, IsStep, is_bad, is_read, takes_memory};
 ghost use Rattle.world.specs.Ending.{HasStopped};
-ghost use Rattle.starts.specs.Starts.{start_state};
+ghost use Rattle.world.specs.Starts.{start_state};
 ghost use Rattle.world.specs.Machine.{IsMachine, subscriber_state, world_of};
 ghost use Rattle.wal.specs.Log.{IsWellFormedLog};
 
 use crate::machine::Machine;
+use crate::start::Start;
 use crate::subscriber::Subscriber;
 use configuration::Config;
-use named_slots::Slot;
 use schedule::{Answer, Event, WorldFault};
 use shared_log::{LogName, Opened};
-use slots::{OpenedSlots, SlotName};
-use starts::Start;
+use slots::{OpenedSlots, Slot, SlotName};
 use std::alloc::Global;
 use std::marker::Model;
 use std::sync::Wait;

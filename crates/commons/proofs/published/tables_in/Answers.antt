@@ -3,8 +3,8 @@ use Rattle.std.proofs.lemmas.Grind.{common_steps}
 use Rattle.std.specs.Prelude.{List}
 use Rattle.std.specs.List.{AllByRecursion}
 use Rattle.std.proofs.lemmas.List.Elements.{filter_map-append}
-use Rattle.answers.specs.Answers.{IsShortName}
-use Rattle.answers.specs.declared.table_name.TableName.{TableName}
+use Rattle.server.specs.Answers.{IsShortName}
+use Rattle.server.specs.declared.table_name.TableName.{TableName}
 use Rattle.commons.proofs.Telling.{all_more}
 use Rattle.commons.proofs.published.tables_in.Goals.{in-Some+in_ok-push, in_default}
 use Rattle.commons.proofs.published.tables_in.Goals as goal

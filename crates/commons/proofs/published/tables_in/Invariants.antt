@@ -1,6 +1,6 @@
 use Rattle.std.proofs.Common.{◌≡◌, take}
 use Rattle.std.specs.List.{filter_map, AllByRecursion}
-use Rattle.answers.specs.Answers.{IsShortName}
+use Rattle.server.specs.Answers.{IsShortName}
 use Rattle.commons.specs.Published.{told_table}
 use Rattle.commons.proofs.published.tables_in.Given as goal
 

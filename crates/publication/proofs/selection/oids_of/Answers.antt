@@ -3,7 +3,7 @@ use Rattle.std.specs.Prelude.{filter}
 use Rattle.std.specs.List.{list_any}
 use Rattle.std.proofs.lemmas.List.{append-nil, drop_all}
 use Rattle.tables.specs.declared.table.Table.{Table}
-use Rattle.published_tables.specs.Published.{has}
+use Rattle.publication_config.specs.Published.{has}
 use Rattle.publication.proofs.selection.oids_of.Goals as goal
 
 pub returns : goal.returns

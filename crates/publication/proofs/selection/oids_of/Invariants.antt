@@ -1,7 +1,7 @@
 use Rattle.std.proofs.Common.{◌≡◌, ◌++◌, drop, map}
 use Rattle.std.specs.Prelude.{filter}
 use Rattle.std.specs.List.{list_any}
-use Rattle.published_tables.specs.Published.{has}
+use Rattle.publication_config.specs.Published.{has}
 use Rattle.publication.proofs.selection.oids_of.Given as goal
 
 abbrev pub invariant-loop-table : goal.invariant-loop-table

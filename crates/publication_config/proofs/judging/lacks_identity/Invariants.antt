@@ -1,6 +1,6 @@
 use Rattle.std.proofs.Common.{◌≡◌, ◌&&◌, not, drop}
 use Rattle.publication_config.specs.Config.{lacks_identity, some_column}
-use Rattle.published_tables.specs.Published.{is_identity, is_listed}
+use Rattle.publication_config.specs.Published.{is_identity, is_listed}
 use Rattle.publication_config.proofs.judging.lacks_identity.Given as goal
 
 abbrev pub invariant-loop-place : goal.invariant-loop-place

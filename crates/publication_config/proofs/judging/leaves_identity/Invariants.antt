@@ -1,7 +1,7 @@
 use Rattle.std.proofs.Common.{◌≡◌, ◌&&◌, not, drop}
 use Rattle.conditions.specs.Conditions.{names}
 use Rattle.publication_config.specs.Config.{leaves_identity, some_column}
-use Rattle.published_tables.specs.Published.{is_identity}
+use Rattle.publication_config.specs.Published.{is_identity}
 use Rattle.publication_config.proofs.judging.leaves_identity.Given as goal
 
 abbrev pub invariant-loop-place : goal.invariant-loop-place

@@ -1,6 +1,6 @@
 use Rattle.std.proofs.Common.{◌≡◌, false, rules}
-use Rattle.quoting.specs.Quoting.{quoted_at}
-use Rattle.quoting.proofs.Quoting.{found}
+use Rattle.pqformat.specs.Quoting.{quoted_at}
+use Rattle.pqformat.proofs.Quoting.{found}
 use Rattle.replcmd.proofs.Texts.{quoted_is_text}
 use Rattle.replcmd.proofs.lexer.quoted_of.Goals as goal
 

@@ -1,6 +1,6 @@
 use Rattle.std.proofs.Common.{◌≡◌, ◌==◌, Bool, true, cond, ◌∷◌, reverse, sym, ap, ◌∙◌}
 use Rattle.std.specs.List.{list_any}
-use Rattle.stream.specs.Items.{is_relation_sent, relations_due}
+use Rattle.pgoutput.specs.Items.{is_relation_sent, relations_due}
 use Rattle.sender.specs.Spelled.{oids_in}
 use Rattle.sender.proofs.Lists.{any_reverse}
 use Rattle.sender.proofs.Heads.{either}

@@ -1,6 +1,6 @@
 use Rattle.std.proofs.Common.{◌≡◌, ◌==◌, ℕ, true, length, reverse}
 use Rattle.std.specs.List.{list_any}
-use Rattle.stream.specs.Items.{relations_due}
+use Rattle.pgoutput.specs.Items.{relations_due}
 use Rattle.sender.specs.Spelled.{oids_in}
 use Rattle.sender.proofs.making.first_due.Given as goal
 

@@ -2,10 +2,10 @@ use Rattle.std.proofs.Common.{◌≡◌, ◌==◌, ◌+◌, ◌≤◌, ℕ, List
 use Rattle.std.specs.Prelude.{IsSome}
 use Rattle.std.specs.List.{list_any}
 use Rattle.std.proofs.lemmas.Int.{to_z-of_z}
-use Rattle.logical.specs.Logical.{spell_logical}
-use Rattle.logical.specs.declared.logical.Logical.TheVariants as logical
+use Rattle.pgoutput.specs.Logical.{spell_logical}
+use Rattle.pgoutput.specs.declared.logical.Logical.TheVariants as logical
 use Rattle.publication.specs.Selection.{relation, selected_table}
-use Rattle.stream.specs.Items.{relations_due, tables_of}
+use Rattle.pgoutput.specs.Items.{relations_due, tables_of}
 use Rattle.sender.specs.Spelled.{message_in, named_in, oids_in, told_at}
 use Rattle.reorder.specs.Ready.{ReadyState, ready_entries}
 use Rattle.sender.specs.Published.{published_changes}

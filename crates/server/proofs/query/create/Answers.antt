@@ -1,7 +1,7 @@
 use Rattle.std.proofs.Common.{[], ◌∷◌, false, refl}
 use Rattle.server.specs.Calls.{CreateSlot}
 use Rattle.server.specs.Conversation.{Runs}
-use Rattle.answers.specs.Said.{answer_to_create}
+use Rattle.server.specs.Said.{answer_to_create}
 use Rattle.replcmd.specs.declared.command.Command.TheVariants.{Create}
 use Rattle.server.proofs.Steps.{gave}
 use Rattle.server.proofs.query.create.Goals as goal

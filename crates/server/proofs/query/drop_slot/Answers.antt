@@ -1,7 +1,7 @@
 use Rattle.std.proofs.Common.{[], ◌∷◌, false, refl}
 use Rattle.server.specs.Calls.{DropSlot}
 use Rattle.server.specs.Conversation.{Runs}
-use Rattle.answers.specs.Said.{answer_to_drop}
+use Rattle.server.specs.Said.{answer_to_drop}
 use Rattle.replcmd.specs.declared.command.Command.TheVariants.{Drop}
 use Rattle.server.proofs.Steps.{gave}
 use Rattle.server.proofs.query.drop_slot.Goals as goal

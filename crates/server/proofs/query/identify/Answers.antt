@@ -1,7 +1,7 @@
 use Rattle.std.proofs.Common.{[], ◌∷◌, false, refl}
 use Rattle.server.specs.Calls.{End, System}
 use Rattle.server.specs.Conversation.{Runs}
-use Rattle.answers.specs.Said.{answer_to_identify}
+use Rattle.server.specs.Said.{answer_to_identify}
 use Rattle.replcmd.specs.declared.command.Command.TheVariants.{Identify}
 use Rattle.server.proofs.Steps.{gave}
 use Rattle.server.proofs.query.identify.Goals as goal

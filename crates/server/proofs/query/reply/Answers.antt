@@ -1,7 +1,7 @@
 use Rattle.std.proofs.Common.{[], refl, inl, inr}
-use Rattle.answers.specs.declared.refusal.Refusal.TheVariants.{Command}
+use Rattle.server.specs.declared.refusal.Refusal.TheVariants.{Command}
 use Rattle.server.specs.Conversation.{Runs, Replies}
-use Rattle.answers.specs.Said.{error_and_ready}
+use Rattle.server.specs.Said.{error_and_ready}
 use Rattle.server.proofs.Names.{short_slot}
 use Rattle.server.proofs.Steps.{not_read, answered_as}
 use Rattle.server.proofs.query.reply.Goals as goal

@@ -1,7 +1,7 @@
 use Rattle.std.proofs.Common.{[], ◌∷◌, refl, inr}
 use Rattle.std.proofs.lemmas.Result.{err_from_is_err_and}
 use Rattle.server.specs.Calls.{StartStream}
-use Rattle.answers.specs.Said.{answer_to_start}
+use Rattle.server.specs.Said.{answer_to_start}
 use Rattle.server.proofs.query.start.Goals as goal
 
 pub returns : goal.returns

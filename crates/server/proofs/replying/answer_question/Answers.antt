@@ -1,9 +1,9 @@
 use Rattle.std.proofs.Common.{[], refl}
-use Rattle.questions.specs.declared.question.Question.TheVariants.{SearchPath, DirectoryMode, InitialCopy}
-use Rattle.answers.specs.declared.refusal.Refusal.TheVariants as refusals
-use Rattle.answers.specs.Answers.{path_set, mode_shown}
+use Rattle.server.specs.declared.question.Question.TheVariants.{SearchPath, DirectoryMode, InitialCopy}
+use Rattle.server.specs.declared.refusal.Refusal.TheVariants as refusals
+use Rattle.server.specs.Answers.{path_set, mode_shown}
 use Rattle.server.specs.Conversation.{AnswersQuestion}
-use Rattle.answers.specs.Said.{error_and_ready}
+use Rattle.server.specs.Said.{error_and_ready}
 use Rattle.server.proofs.Steps.{gave}
 use Rattle.server.proofs.replying.answer_question.Goals as goal
 

@@ -1,8 +1,8 @@
 use Rattle.std.proofs.Common.{[], ◌∷◌, refl}
-use Rattle.questions.specs.declared.question.Question.TheVariants.{DropWhenFree}
+use Rattle.server.specs.declared.question.Question.TheVariants.{DropWhenFree}
 use Rattle.server.specs.Calls.{DropSlot}
 use Rattle.server.specs.Conversation.{AnswersQuestion}
-use Rattle.answers.specs.Said.{answer_to_drop}
+use Rattle.server.specs.Said.{answer_to_drop}
 use Rattle.server.proofs.Steps.{gave}
 use Rattle.server.proofs.replying.drop_when_free.Goals as goal
 

@@ -1,8 +1,8 @@
 use Rattle.std.proofs.Common.{Bool, false, List, ℕ, refl, inl, inr, rules}
 use Rattle.std.proofs.lemmas.Result.{err_from_is_err_and}
-use Rattle.questions.specs.declared.question.Question.{Question}
-use Rattle.questions.specs.Questions.{SpellsQuestion}
-use Rattle.answers.specs.declared.service.Dialect.TheVariants.{Questions}
+use Rattle.server.specs.declared.question.Question.{Question}
+use Rattle.server.specs.Questions.{SpellsQuestion}
+use Rattle.server.specs.declared.service.Dialect.TheVariants.{Questions}
 use Rattle.server.specs.Conversation.{AnswersQuestion, Replies, RepliesIn}
 use Rattle.server.proofs.Steps.{answered_as, tried_as}
 use Rattle.server.proofs.replying.reply_or_answer.Goals as goal

@@ -1,6 +1,6 @@
 use Rattle.std.proofs.Common.{[], ◌∷◌, refl}
-use Rattle.questions.specs.declared.question.Question.TheVariants as questions
-use Rattle.answers.specs.Answers.{publications_told}
+use Rattle.server.specs.declared.question.Question.TheVariants as questions
+use Rattle.server.specs.Answers.{publications_told}
 use Rattle.server.specs.Calls as calls
 use Rattle.server.specs.Conversation.{AnswersQuestion}
 use Rattle.server.proofs.Steps.{gave}

@@ -1,8 +1,8 @@
 use Rattle.std.proofs.Common.{[], ◌∷◌, refl, sym, inl, inr}
 use Rattle.std.proofs.lemmas.List.{append-nil}
-use Rattle.answers.specs.declared.refusal.Refusal.TheVariants.{Violation}
+use Rattle.server.specs.declared.refusal.Refusal.TheVariants.{Violation}
 use Rattle.server.specs.Calls.{Flushed}
-use Rattle.answers.specs.Said.{error_of_refusal}
+use Rattle.server.specs.Said.{error_of_refusal}
 use Rattle.server.proofs.streaming.answer_data.Goals as goal
 
 pub returns-in-Ok : goal.returns-in-Ok

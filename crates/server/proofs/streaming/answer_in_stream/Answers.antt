@@ -1,9 +1,9 @@
 use Rattle.std.proofs.Common.{[], refl, sym, subst}
 use Rattle.std.proofs.lemmas.List.{append-nil}
 use Rattle.frames.specs.declared.front.Front.{Front}
-use Rattle.answers.specs.declared.refusal.Refusal.TheVariants.{Violation}
+use Rattle.server.specs.declared.refusal.Refusal.TheVariants.{Violation}
 use Rattle.server.specs.declared.stage.Stage.TheVariants.{Stopping, Closed}
-use Rattle.answers.specs.Said.{error_of_refusal}
+use Rattle.server.specs.Said.{error_of_refusal}
 use Rattle.server.specs.Turns.{Streams}
 use Rattle.server.proofs.Turning.{out_of_stream}
 use Rattle.server.proofs.streaming.answer_in_stream.Goals as goal

@@ -3,15 +3,15 @@ use Rattle.std.proofs.Common.{List, [], ◌∷◌, ℕ, Result, Ok, Err}
 use Rattle.std.specs.Prelude.{IfOk, Option, Some, None}
 use Rattle.std.specs.List.{AllByRecursion}
 use Rattle.pgoutput.specs.declared.fault.OutFault.{OutFault}
-use Rattle.logical.specs.declared.logical.Logical.{Logical}
-use Rattle.logical.specs.declared.logical.Logical.TheVariants as logical
+use Rattle.pgoutput.specs.declared.logical.Logical.{Logical}
+use Rattle.pgoutput.specs.declared.logical.Logical.TheVariants as logical
 use Rattle.pgoutput.specs.declared.tuple.Cell.{Cell}
 use Rattle.pgoutput.specs.declared.tuple.Cell.TheVariants as cells
 use Rattle.pgoutput.specs.declared.old_tuple.OldTuple.{OldTuple}
 use Rattle.pgoutput.specs.Tuple.{FitsCell, FitsSentCell, FitsSentTuple, FitsTuple, IsShortCell, IsShortTuple}
 use Rattle.pgoutput.specs.OldTuple.{cells_of}
 use Rattle.pgoutput.specs.Update.{FitsIfAny, IsShortIfAny}
-use Rattle.logical.specs.Logical.{FitsLogical, IsShort, SpellsLogical}
+use Rattle.pgoutput.specs.Logical.{FitsLogical, IsShort, SpellsLogical}
 use Rattle.test_vectors.proofs.bodies.answer_logical.Goals as goal
 
 short_cell : (c : Cell) → FitsCell c → IsShortCell c

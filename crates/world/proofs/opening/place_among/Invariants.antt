@@ -1,6 +1,6 @@
 use Rattle.std.proofs.Common.{◌≡◌, drop, map}
 use Rattle.world.specs.Machine.{place_among}
-use Rattle.starts.specs.Starts.{start_state}
+use Rattle.world.specs.Starts.{start_state}
 use Rattle.world.proofs.opening.place_among.Given as goal
 
 abbrev pub invariant-loop-place : goal.invariant-loop-place

@@ -1,5 +1,5 @@
 use Rattle.std.proofs.Common.{subst}
-use Rattle.published_tables.specs.Published.{PublicationSet}
+use Rattle.publication_config.specs.Published.{PublicationSet}
 use Rattle.publication.specs.Selection.{FitTables}
 use Rattle.publication.proofs.Standing.{spelled_fits}
 use Rattle.publication.proofs.selection.Selection.messages_fit.Goals as goal

@@ -1,7 +1,7 @@
 use Rattle.std.proofs.Common.{arith, sym, subst, ◌∙◌}
 use Rattle.std.specs.Prelude.{Option, OnSome}
-use Rattle.logical.specs.declared.logical.Logical.{Logical}
-use Rattle.published_tables.specs.Published.{PublicationSet}
+use Rattle.pgoutput.specs.declared.logical.Logical.{Logical}
+use Rattle.publication_config.specs.Published.{PublicationSet}
 use Rattle.publication.specs.Selection.{FitTables}
 use Rattle.publication.specs.Projection.{AreValues}
 use Rattle.publication.proofs.LoggedMessages.{change_fits}

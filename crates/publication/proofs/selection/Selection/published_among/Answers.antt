@@ -1,7 +1,7 @@
 use Rattle.std.proofs.Common.{◌++◌, ℕ, List, sym, ap, ◌∙◌}
 use Rattle.std.specs.Prelude.{filter}
 use Rattle.std.proofs.lemmas.List.{append-nil, drop_all}
-use Rattle.published_tables.specs.declared.operations.Operation.TheVariants.{Truncate}
+use Rattle.publication_config.specs.declared.operations.Operation.TheVariants.{Truncate}
 use Rattle.publication.specs.Projection.{is_published}
 use Rattle.publication.proofs.selection.Selection.published_among.Goals as goal
 

@@ -1,6 +1,6 @@
 use Rattle.std.proofs.Common.{◌≡◌, ◌++◌, drop}
 use Rattle.std.specs.Prelude.{filter}
-use Rattle.published_tables.specs.declared.operations.Operation.TheVariants.{Truncate}
+use Rattle.publication_config.specs.declared.operations.Operation.TheVariants.{Truncate}
 use Rattle.publication.specs.Projection.{is_published}
 use Rattle.publication.proofs.selection.Selection.published_among.Given as goal
 

@@ -1,7 +1,7 @@
 use Rattle.std.proofs.Common.{◌≡◌, ◌+◌, ◌∙◌, ℕ, ap, arith, drop, length, subst, take}
 use Rattle.std.proofs.lemmas.List.{length-take}
 use Rattle.publication.specs.Logged.{change_message}
-use Rattle.published_tables.specs.Published.{PublicationSet}
+use Rattle.publication_config.specs.Published.{PublicationSet}
 use Rattle.publication.specs.Selection.{FitTables}
 use Rattle.row_messages.specs.Spelling.{room_for}
 use Rattle.publication.proofs.Standing.{spelled_fits}

@@ -1,6 +1,6 @@
 use Rattle.std.proofs.Common.{◌+◌, arith, length, subst}
 use Rattle.tables.specs.Spelling.{row_length}
-use Rattle.published_tables.specs.Published.{PublicationSet}
+use Rattle.publication_config.specs.Published.{PublicationSet}
 use Rattle.tables.specs.declared.change.Change.TheVariants.{Insert}
 use Rattle.publication.specs.Projection.{message_by}
 use Rattle.publication.specs.Selection.{FitTables}

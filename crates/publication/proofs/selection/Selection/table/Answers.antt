@@ -1,6 +1,6 @@
 use Rattle.std.proofs.Common.{ap, subst, ◌∙◌}
 use Rattle.tables.specs.Tables.{table_of}
-use Rattle.published_tables.specs.Published.{PublicationSet}
+use Rattle.publication_config.specs.Published.{PublicationSet}
 use Rattle.publication.specs.Selection.{FitTables}
 use Rattle.publication.proofs.Relations.{table_fits}
 use Rattle.publication.proofs.selection.Selection.table.Goals as goal

@@ -1,5 +1,5 @@
 use Rattle.std.proofs.Common.{sym, ap, ◌∙◌}
-use Rattle.published_tables.specs.Published.{PublicationSet}
+use Rattle.publication_config.specs.Published.{PublicationSet}
 use Rattle.publication.proofs.Judgements.{truncate_emptied}
 use Rattle.publication.proofs.selection.Selection.tells_emptied.Goals as goal
 

@@ -3,7 +3,7 @@ use Rattle.std.specs.Prelude.{◌&&◌, ◌||◌}
 use Rattle.tables.specs.declared.kinds.Value.{Value}
 use Rattle.tables.specs.Reading.{insert_at, row_at, update_at}
 use Rattle.tables.specs.Tables.{fits_table}
-use Rattle.published_tables.specs.declared.operations.Operation.TheVariants.{Update}
+use Rattle.publication_config.specs.declared.operations.Operation.TheVariants.{Update}
 use Rattle.row_messages.specs.Messages.{stands_in}
 use Rattle.publication.specs.Projection.{passes}
 use Rattle.publication.proofs.Fields.{behind_is, update_parts}

@@ -2,7 +2,7 @@ use Rattle.std.proofs.Common.{◌≡◌, Bool, List, [], cond, sym, ap, subst, �
 use Rattle.std.specs.Int.{w64}
 use Rattle.std.proofs.lemmas.Int.{to_z-of_z}
 use Rattle.std.proofs.lemmas.Bool.{le-leb}
-use Rattle.stream.specs.declared.published.Published.{Published}
+use Rattle.pgoutput.specs.declared.published.Published.{Published}
 use Rattle.sender.specs.Published.{published_note}
 use Rattle.sender.specs.Sending.{published_quietly}
 use Rattle.sender.specs.Outgoing.{Grows}

@@ -3,10 +3,10 @@ use Rattle.std.specs.Prelude.{◌&&◌, is_some}
 use Rattle.std.specs.List.{AllByRecursion}
 use Rattle.std.proofs.lemmas.Option.{slice_get_within}
 use Rattle.world.specs.State.{SubscriberState, open_start, subscriber_of}
-use Rattle.named_slots.specs.Words.{slots_after_confirming}
+use Rattle.slots.specs.Words.{slots_after_confirming}
 use Rattle.world.specs.Slots.{has_status, is_waiting}
 use Rattle.world.specs.Machine.{IsSubscribed, subscriber_state, world_of}
-use Rattle.starts.specs.Starts.{start_state}
+use Rattle.world.specs.Starts.{start_state}
 use Rattle.world.proofs.Naming.{place_within, still_named}
 use Rattle.world.proofs.Openings.{none_open, open_at}
 use Rattle.world.proofs.PipesBack.{acknowledges, and_none, no_start, same_states, waits_there}

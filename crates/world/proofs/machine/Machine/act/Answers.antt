@@ -1,12 +1,12 @@
 use Rattle.std.proofs.Common.{◌≡◌, ℕ, List, Option, map, sym, ap, subst, ◌∙◌}
 use Rattle.std.specs.List.{AllByRecursion}
-use Rattle.starts.specs.declared.action.Action.{Action}
-use Rattle.named_slots.specs.State.{SlotsState}
+use Rattle.world.specs.declared.action.Action.{Action}
+use Rattle.slots.specs.State.{SlotsState}
 use Rattle.world.specs.State.{SubscriberState, WorldState}
-use Rattle.named_slots.specs.Words.{slots_after_letting_go}
+use Rattle.slots.specs.Words.{slots_after_letting_go}
 use Rattle.world.specs.ConnectionLines.{ActsAt, slots_after, subscribers_after}
 use Rattle.world.specs.Machine.{ActsIn, IsSubscribed, subscriber_state, world_of}
-use Rattle.starts.specs.Starts.{start_state}
+use Rattle.world.specs.Starts.{start_state}
 use Rattle.world.proofs.Openings.{open_at, none_open}
 use Rattle.world.proofs.Asking.{acted_at, subscribed_on}
 use Rattle.world.proofs.Subscribing.{all_reconnected}

@@ -1,12 +1,12 @@
 use Rattle.std.proofs.Common.{◌≡◌, ◌++◌, ◌∷◌, [], List, length, map, ap, sym, subst, arith, true, ◌∙◌}
 use Rattle.std.proofs.lemmas.List.{map-append}
 use Rattle.std.specs.List.{AllByRecursion}
-use Rattle.starts.specs.declared.start.Start.{Start}
-use Rattle.starts.specs.State.{StartState, running_count}
+use Rattle.world.specs.declared.start.Start.{Start}
+use Rattle.world.specs.Start.{StartState, running_count}
 use Rattle.world.specs.State.{SubscriberState, with_one_for}
-use Rattle.starts.specs.Starts.{IsServed, start_state}
+use Rattle.world.specs.Starts.{IsServed, start_state}
 use Rattle.world.specs.Machine.{IsSubscribed, subscriber_state}
-use Rattle.stream.proofs.Lists.{all_of_both}
+use Rattle.pgoutput.proofs.Lists.{all_of_both}
 use Rattle.world.proofs.Machines.{found_more}
 use Rattle.world.proofs.Readers.{running_more}
 use Rattle.world.proofs.Subscribing.{all_joined}

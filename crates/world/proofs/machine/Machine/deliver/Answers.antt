@@ -1,7 +1,7 @@
 use Rattle.std.proofs.Common.{arith, length, map, sym, ap, ◌∙◌}
 use Rattle.std.proofs.lemmas.Option.{slice_get_within}
 use Rattle.world.specs.State.{SubscriberState}
-use Rattle.starts.specs.Starts.{start_state}
+use Rattle.world.specs.Starts.{start_state}
 use Rattle.world.specs.Machine.{subscriber_state}
 use Rattle.world.proofs.Naming.{place_within, still_named}
 use Rattle.world.proofs.Openings.{none_open, open_at}

@@ -1,5 +1,5 @@
 use Rattle.std.proofs.Common.{map, sym, ◌∙◌}
-use Rattle.starts.specs.Starts.{start_state}
+use Rattle.world.specs.Starts.{start_state}
 use Rattle.world.specs.Machine.{subscriber_state}
 use Rattle.world.proofs.Openings.{none_open, open_at}
 use Rattle.world.proofs.Subscribing.{has_place, open_subscribed}

@@ -4,7 +4,7 @@ use Rattle.std.specs.Int.{w64}
 use Rattle.std.proofs.lemmas.Int.{to_z-of_z}
 use Rattle.world.specs.State.{SubscriberState}
 use Rattle.world.specs.Machine.{IsSubscribed, subscriber_state, world_of}
-use Rattle.starts.specs.Starts.{start_state}
+use Rattle.world.specs.Starts.{start_state}
 use Rattle.world.proofs.Naming.{place_within, still_named}
 use Rattle.world.proofs.Openings.{none_open, open_at}
 use Rattle.world.proofs.PipesBack.{on_err, puts_back, same_states}

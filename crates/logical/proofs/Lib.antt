@@ -1,9 +1,0 @@
-pub mod Wires
-pub mod Whole
-pub mod Stopping
-pub mod StoppingLists
-pub mod StoppingFields
-pub mod StoppingTexts
-pub mod Stopped
-pub mod StoppedRows
-pub mod Lost

@@ -1,5 +1,0 @@
-use Rattle.logical.proofs.StoppedRows.{logical_spelled}
-use Rattle.logical.proofs.logical.a_message_is_its_fields.Goals as goal
-
-pub returns : goal.returns
-returns c = logical_spelled

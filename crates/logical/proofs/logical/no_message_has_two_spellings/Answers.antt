@@ -1,5 +1,0 @@
-use Rattle.logical.proofs.Whole.{two_spellings}
-use Rattle.logical.proofs.logical.no_message_has_two_spellings.Goals as goal
-
-pub returns : goal.returns
-returns c = two_spellings

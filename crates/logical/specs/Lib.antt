@@ -1,2 +1,0 @@
-pub mod Logical
-pub mod Layout

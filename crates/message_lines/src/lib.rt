@@ -1,0 +1,27 @@
+//! The messages of a stream as lines: of text, for people to read, and of JSON, as users of wal2json know them, with which of
+//! those end a transaction.
+#![tactic(auto)]
+
+mod cell_text;
+mod changes;
+mod ending;
+mod fault;
+mod fronts;
+mod kinds;
+mod laws;
+mod marks;
+mod members;
+mod part;
+mod rendering;
+mod rows;
+mod values;
+
+pub use changes::{delete_line, insert_line, truncate_line, update_line};
+pub use ending::{behind, end_of};
+pub use fault::LineFault;
+pub use fronts::{begins_one, is_change_line, is_note_line};
+pub use laws::{
+    lines_begin_with_what_they_tell, lines_tell_what_was_written, lines_tell_where_they_end,
+};
+pub use marks::{begin_line, commit_line, message_line, summary_line};
+pub use rendering::render;

@@ -1,4 +1,0 @@
-pub mod State
-pub mod Keeping
-pub mod Leasing
-pub mod Words

@@ -1,0 +1,109 @@
+//! The command line: which words it may have, and how they are read.
+
+use crate::command_fault::CommandFault;
+use crate::help::{ABOUT, AFTER_HELP};
+use crate::words::Words;
+use clap::ArgMatches;
+use command_line::{CommandLine, Word, WordForm, WordsFault};
+use std::alloc::{AllocError, Global};
+
+/// The words: those that may be left out, those that have to be there, and scripts.
+const WORDS: [Word<'static>; 11] = [
+    Word {
+        name: "await-streams",
+        form: WordForm::Option("N"),
+        help: "Run the scripts once N streams have begun, or no more connections come",
+    },
+    Word {
+        name: "wal-sender-timeout",
+        form: WordForm::Option("TIME"),
+        help: "Close a stream's connection where its client is silent for so long: 60s unless it is given, 0 for never",
+    },
+    Word {
+        name: "authentication-timeout",
+        form: WordForm::Option("TIME"),
+        help: "Close a connection that has said no startup for so long: 60s unless it is given, 0 for never",
+    },
+    Word {
+        name: "max-connections",
+        form: WordForm::Option("N"),
+        help: "Serve so many connections at once, and refuse more: 100 unless it is given",
+    },
+    Word {
+        name: "log-min-messages",
+        form: WordForm::Option("LEVEL"),
+        help: "Say on the standard error which connections can't be taken (error), which end otherwise than by their clients and what is refused (warning, unless it is given), or how each ends (info)",
+    },
+    Word {
+        name: "status",
+        form: WordForm::Option("ADDR"),
+        help: "Tell at this address and port what runs, over HTTP, as Prometheus reads it: GET /metrics",
+    },
+    Word {
+        name: "answer-postgresql",
+        form: WordForm::Flag,
+        help: "Answer what CREATE SUBSCRIPTION and pg_recvlogical ask beside the commands of replication, and call the server 13.0 for them",
+    },
+    Word {
+        name: "CONFIG",
+        form: WordForm::Required,
+        help: "A TOML file with the server, the tables and their publications",
+    },
+    Word {
+        name: "ADDR",
+        form: WordForm::Required,
+        help: "The address and port to listen at, as in 127.0.0.1:5433",
+    },
+    Word {
+        name: "CONNECTIONS",
+        form: WordForm::Required,
+        help: "After how many connections it ends: 0 to 1000, or forever",
+    },
+    Word {
+        name: "SCRIPT",
+        form: WordForm::Repeated,
+        help: "Text files of such lines, or - for the standard input",
+    },
+];
+
+const PUBD: CommandLine<'static> = CommandLine {
+    name: "pubd",
+    about: ABOUT,
+    after_help: AFTER_HELP,
+    words: &WORDS,
+};
+
+/// All words, or the text for a user who asks for help or gives other words.
+pub fn words_of<'a>(alloc: Global, given: &'a [String]) -> Result<Words<'a>, CommandFault> {
+    match PUBD.read(alloc, given) {
+        Ok(matches) => Ok(words_in(alloc, &matches).map_err(WordsFault::Memory)?),
+        Err(fault) => Err(CommandFault::Words(WordsFault::Usage(fault))),
+    }
+}
+
+fn scripts_in<'a>(alloc: Global, matches: &ArgMatches<'a>) -> Result<Vec<&'a str>, AllocError> {
+    let mut scripts = Vec::new(alloc);
+    if let Some(paths) = matches.get_strs("SCRIPT") {
+        for path in paths {
+            scripts.push(*path)?;
+        }
+    }
+    Ok(scripts)
+}
+
+/// The first three are required, so they are there.
+fn words_in<'a>(alloc: Global, matches: &ArgMatches<'a>) -> Result<Words<'a>, AllocError> {
+    Ok(Words {
+        config: matches.get_str("CONFIG").unwrap_or(""),
+        address: matches.get_str("ADDR").unwrap_or(""),
+        connections: matches.get_str("CONNECTIONS").unwrap_or(""),
+        awaited: matches.get_str("await-streams"),
+        silence: matches.get_str("wal-sender-timeout"),
+        startup: matches.get_str("authentication-timeout"),
+        at_once: matches.get_str("max-connections"),
+        messages: matches.get_str("log-min-messages"),
+        status: matches.get_str("status"),
+        answers_postgresql: matches.get_flag("answer-postgresql"),
+        scripts: scripts_in(alloc, matches)?,
+    })
+}

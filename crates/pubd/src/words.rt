@@ -1,0 +1,129 @@
+//! The words of a command line that was read, and those among them that are numbers.
+
+use crate::command_fault::{CommandFault, NumberFault};
+use crate::level::Level;
+use crate::times::timeout_of;
+use command_line::{address_of, count_of};
+use std::net::SocketAddr;
+use std::time::Duration;
+
+/// The most connections that one run serves.
+const MOST_CONNECTIONS: u32 = 1000;
+
+/// In the place of their number for a server that goes on: with a connection each second it lasts for 136 years.
+const FOREVER: &str = "forever";
+
+/// What the program is asked to serve.
+#[derive(Drop)]
+pub struct Words<'a> {
+    pub config: &'a str,
+    pub(crate) address: &'a str,
+    pub(crate) connections: &'a str,
+    pub(crate) awaited: Option<&'a str>,
+    pub(crate) silence: Option<&'a str>,
+    pub(crate) startup: Option<&'a str>,
+    pub(crate) at_once: Option<&'a str>,
+    pub(crate) messages: Option<&'a str>,
+    pub(crate) status: Option<&'a str>,
+    pub(crate) answers_postgresql: bool,
+    pub scripts: Vec<&'a str>,
+}
+
+/// Where it listens, for connections and for who asks what runs, how many connections it serves, how many streams the scripts await, how much it tells, its limits where
+/// they are told: for how long a stream's client may be silent, how long a startup may take, and how many connections are served
+/// at once; and whether PostgreSQL's own clients are answered.
+#[derive(Clone, Copy)]
+pub struct Numbers {
+    pub address: SocketAddr,
+    pub status: Option<SocketAddr>,
+    pub connections: u32,
+    pub awaited: u64,
+    pub level: Level,
+    pub wal_sender_timeout: Option<Duration>,
+    pub authentication_timeout: Option<Duration>,
+    pub max_connections: Option<u32>,
+    pub answers_postgresql: bool,
+}
+
+impl<'a> Words<'a> {
+    /// The words that are numbers.
+    pub fn numbers(&self) -> Result<Numbers, CommandFault> {
+        let address = address_of(self.address)?;
+        Ok(self.numbers_at(address)?)
+    }
+
+    fn numbers_at(&self, address: SocketAddr) -> Result<Numbers, NumberFault> {
+        Ok(Numbers {
+            address,
+            status: self.status()?,
+            connections: self.connections()?,
+            awaited: self.awaited()?,
+            level: self.level()?,
+            wal_sender_timeout: self.wal_sender_timeout()?,
+            authentication_timeout: self.authentication_timeout()?,
+            max_connections: self.max_connections()?,
+            answers_postgresql: self.answers_postgresql,
+        })
+    }
+
+    fn status(&self) -> Result<Option<SocketAddr>, NumberFault> {
+        let Some(text) = self.status else {
+            return Ok(None);
+        };
+        match text.parse::<SocketAddr>() {
+            Ok(address) => Ok(Some(address)),
+            Err(_) => Err(NumberFault::StatusAddress),
+        }
+    }
+
+    fn connections(&self) -> Result<u32, NumberFault> {
+        if self.connections == FOREVER {
+            return Ok(u32::MAX);
+        }
+        match count_of(self.connections) {
+            Some(count) if count <= MOST_CONNECTIONS => Ok(count),
+            _ => Err(NumberFault::Connections),
+        }
+    }
+
+    fn awaited(&self) -> Result<u64, NumberFault> {
+        let Some(count) = self.awaited else {
+            return Ok(0);
+        };
+        match count_of(count) {
+            Some(count) => Ok(u64::from(count)),
+            None => Err(NumberFault::Awaited),
+        }
+    }
+
+    fn level(&self) -> Result<Level, NumberFault> {
+        match self.messages {
+            Some(text) => Level::of(text).ok_or(NumberFault::Level),
+            None => Ok(Level::Warning),
+        }
+    }
+
+    fn wal_sender_timeout(&self) -> Result<Option<Duration>, NumberFault> {
+        match self.silence {
+            Some(text) => timeout_of(text).ok_or(NumberFault::Silence).map(Some),
+            None => Ok(None),
+        }
+    }
+
+    fn authentication_timeout(&self) -> Result<Option<Duration>, NumberFault> {
+        match self.startup {
+            Some(text) => timeout_of(text).ok_or(NumberFault::Startup).map(Some),
+            None => Ok(None),
+        }
+    }
+
+    fn max_connections(&self) -> Result<Option<u32>, NumberFault> {
+        let Some(text) = self.at_once else {
+            return Ok(None);
+        };
+        match count_of(text) {
+            Some(count) if 1 <= count => Ok(Some(count)),
+            _ => Err(NumberFault::AtOnce),
+        }
+    }
+}

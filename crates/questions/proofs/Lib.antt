@@ -1,4 +1,0 @@
-pub mod Quotes
-pub mod Lists
-pub mod Slots
-pub mod Once

@@ -1,0 +1,64 @@
+//! Scripts in files.
+
+use crate::fault::ScriptFileFault;
+use crate::numbered_steps::Steps;
+use schedule::{LineFault, WorldFault};
+use std::alloc::{AllocError, Global};
+use std::fs;
+
+/// A script by its path.
+#[derive(Drop)]
+pub struct Script {
+    pub path: String,
+    pub steps: Steps,
+}
+
+/// Stands in the place of a script's path for the standard input.
+pub const STANDARD_INPUT: &str = "-";
+
+/// The scripts at these paths, in order, but for the standard input.
+pub fn scripts_at(rt: &HostRuntime, paths: &[&str]) -> Result<Vec<Script>, ScriptFileFault> {
+    let mut scripts = Vec::with_capacity(rt.alloc(), paths.len())?;
+    read_all(rt, paths, &mut scripts)?;
+    Ok(scripts)
+}
+
+fn read_all(
+    rt: &HostRuntime,
+    paths: &[&str],
+    scripts: &mut Vec<Script>,
+) -> Result<(), ScriptFileFault> {
+    for path in paths {
+        if *path != STANDARD_INPUT {
+            add(rt, path, scripts)?;
+        }
+    }
+    Ok(())
+}
+
+fn add(rt: &HostRuntime, path: &str, scripts: &mut Vec<Script>) -> Result<(), ScriptFileFault> {
+    let script = script_at(rt, path)?;
+    Ok(scripts.push(script)?)
+}
+
+fn script_at(rt: &HostRuntime, path: &str) -> Result<Script, ScriptFileFault> {
+    let name = String::from_str(rt.alloc(), path)?;
+    match fs::read_to_string(rt, path) {
+        Ok(text) => script_in(rt.alloc(), name, text.as_str()),
+        Err(error) => Err(ScriptFileFault::Read(name, error)),
+    }
+}
+
+fn script_in(alloc: Global, name: String, text: &str) -> Result<Script, ScriptFileFault> {
+    match Steps::parse(alloc, text) {
+        Ok(steps) => Ok(Script { path: name, steps }),
+        Err(fault) => Err(refusal_of(name, &fault)),
+    }
+}
+
+fn refusal_of(name: String, refused: &LineFault) -> ScriptFileFault {
+    match refused.fault {
+        WorldFault::BadEvent => ScriptFileFault::BadLine(name, refused.line),
+        WorldFault::Memory | WorldFault::NoEntry => ScriptFileFault::Memory(AllocError),
+    }
+}

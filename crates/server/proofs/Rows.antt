@@ -1,0 +1,41 @@
+-- The rows of answers fit their frames.
+use Rattle.std.proofs.Common.{◌+◌, ◌*◌, ◌^◌, ◌<◌, ◌≤◌, List, [], ◌∷◌, length, ap, arith}
+use Rattle.std.specs.List.{flat_map, AllByRecursion}
+use Rattle.std.proofs.lemmas.List.{length-append}
+use Rattle.std.proofs.lemmas.List.Concat.{flat_map-cons}
+use Rattle.frames.specs.declared.row_description.ColumnDescription.{ColumnDescription}
+use Rattle.frames.specs.declared.data_row.DataValue.{DataValue}
+use Rattle.frames.specs.declared.data_row.DataValue.TheVariants.{Null, Bytes}
+use Rattle.frames.specs.Plain.{counted_items}
+use Rattle.frames.specs.RowDescription.{column}
+use Rattle.frames.specs.DataRow.{data_value, FitsValue}
+use Rattle.frames.proofs.Lengths.{length_column, length_value, length_counted}
+use Rattle.server.specs.Said.{IsSmall}
+
+short_columns : (columns : List ColumnDescription) → AllByRecursion (λ c. length c.name ≤ 40) columns → length (flat_map column columns) ≤ 59 * length columns
+short_columns [] short = omega arith
+short_columns (c ∷ columns) short =
+    omega (arith, short.0, short_columns columns short.1, length_column c, length-append (column c) (flat_map column columns), ap length (flat_map-cons column c columns))
+
+pub columns_fit : (columns : List ColumnDescription) → length columns ≤ 4 → AllByRecursion (λ c. length c.name ≤ 40) columns → 4 + length (counted_items column columns) < 2 ^ 32
+columns_fit columns four short = omega (arith, short_columns columns short, length_counted (length columns) (flat_map column columns))
+
+small_value : (v : DataValue) → IsSmall v → length (data_value v) ≤ 65540
+small_value Null small = omega (arith, length_value Null)
+small_value (Bytes bytes) small = omega (arith, length_value (Bytes bytes))
+
+small_values : (values : List DataValue) → AllByRecursion IsSmall values → length (flat_map data_value values) ≤ 65540 * length values
+small_values [] small = omega arith
+small_values (v ∷ values) small =
+    omega (arith, small_value v small.0, small_values values small.1, length-append (data_value v) (flat_map data_value values), ap length (flat_map-cons data_value v values))
+
+pub values_fit : (values : List DataValue) → length values ≤ 4 → AllByRecursion IsSmall values → 4 + length (counted_items data_value values) < 2 ^ 32
+values_fit values four small = omega (arith, small_values values small, length_counted (length values) (flat_map data_value values))
+
+fits : (v : DataValue) → IsSmall v → FitsValue v
+fits Null small = tt
+fits (Bytes bytes) small = omega (arith, small)
+
+pub all_fit : (values : List DataValue) → AllByRecursion IsSmall values → AllByRecursion FitsValue values
+all_fit [] small = tt
+all_fit (v ∷ values) small = (fits v small.0, all_fit values small.1)

@@ -1,0 +1,60 @@
+-- What an ErrorResponse says of each cause (PostgreSQL 15, appendix A): the code, and the text.
+use Rattle.std.specs.Prelude.{ℕ, List, codes}
+use Rattle.replcmd.specs.declared.fault.CmdFault.{CmdFault}
+use Rattle.replcmd.specs.declared.fault.CmdFault.TheVariants as commands
+use Rattle.server.specs.declared.desk_fault.DeskFault.{DeskFault}
+use Rattle.server.specs.declared.desk_fault.DeskFault.TheVariants as desks
+use Rattle.server.specs.declared.refusal.Refusal.{Refusal}
+use Rattle.server.specs.declared.refusal.Refusal.TheVariants.{Violation, Version, NoReplication, InitialCopy, Command, Asked}
+
+abbrev pub command_code : CmdFault → List ℕ
+command_code commands.Syntax = codes "42601"
+command_code commands.BadName = codes "42602"
+command_code commands.BadPosition = codes "42601"
+command_code commands.Unsupported = codes "0A000"
+command_code commands.BadOption = codes "22023"
+command_code commands.Memory = codes "53200"
+
+abbrev pub command_text : CmdFault → List ℕ
+command_text commands.Syntax = codes "syntax error"
+command_text commands.BadName = codes "bad slot name"
+command_text commands.BadPosition = codes "bad position"
+command_text commands.Unsupported = codes "not supported"
+command_text commands.BadOption = codes "bad option"
+command_text commands.Memory = codes "out of memory"
+
+abbrev pub desk_code : DeskFault → List ℕ
+desk_code desks.SlotMissing = codes "42704"
+desk_code desks.SlotInUse = codes "55006"
+desk_code desks.SlotExists = codes "42710"
+desk_code desks.NoSlotPlace = codes "53400"
+desk_code desks.UnknownPublication = codes "42704"
+desk_code desks.ListConflict = codes "0A000"
+desk_code desks.NoReader = codes "53400"
+desk_code desks.Memory = codes "53200"
+
+abbrev pub desk_text : DeskFault → List ℕ
+desk_text desks.SlotMissing = codes "slot does not exist"
+desk_text desks.SlotInUse = codes "slot is in use"
+desk_text desks.SlotExists = codes "slot already exists"
+desk_text desks.NoSlotPlace = codes "no slot place is left"
+desk_text desks.UnknownPublication = codes "publication does not exist"
+desk_text desks.ListConflict = codes "different column lists"
+desk_text desks.NoReader = codes "too many senders"
+desk_text desks.Memory = codes "out of memory"
+
+abbrev pub refusal_code : Refusal → List ℕ
+refusal_code Violation = codes "08P01"
+refusal_code Version = codes "0A000"
+refusal_code NoReplication = codes "0A000"
+refusal_code InitialCopy = codes "0A000"
+refusal_code (Command fault) = command_code fault
+refusal_code (Asked fault) = desk_code fault
+
+abbrev pub refusal_text : Refusal → List ℕ
+refusal_text Violation = codes "protocol violation"
+refusal_text Version = codes "unsupported protocol version"
+refusal_text NoReplication = codes "only replication=database is served"
+refusal_text InitialCopy = codes "initial copies are not served"
+refusal_text (Command fault) = command_text fault
+refusal_text (Asked fault) = desk_text fault

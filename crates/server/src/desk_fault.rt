@@ -1,0 +1,34 @@
+//! The faults of a desk.
+
+use std::error::Error;
+use std::fmt;
+
+/// Why a desk refuses what a command asks.
+#[derive(Clone, Copy, Debug, PartialEq, Eq)]
+pub enum DeskFault {
+    SlotMissing,
+    SlotInUse,
+    SlotExists,
+    NoSlotPlace,
+    UnknownPublication,
+    ListConflict,
+    NoReader,
+    Memory,
+}
+
+impl fmt::Display for DeskFault {
+    fn fmt<W: fmt::Write>(&self, f: &mut fmt::Formatter<W>) -> fmt::Result {
+        f.write_str(match self {
+            DeskFault::SlotMissing => "L1: the slot does not exist",
+            DeskFault::SlotInUse => "L2: the slot is in use",
+            DeskFault::SlotExists => "L3: the slot already exists",
+            DeskFault::NoSlotPlace => "L4: no slot place is left",
+            DeskFault::UnknownPublication => "P1: the publication does not exist",
+            DeskFault::ListConflict => "P2: different column lists",
+            DeskFault::NoReader => "L6: no reader is free",
+            DeskFault::Memory => "out of memory",
+        })
+    }
+}
+
+impl Error for DeskFault {}

@@ -1,0 +1,56 @@
+//! Why a session or a command is refused, as the client is told it.
+
+ghost use Rattle.std.specs.Prelude.{◌≡◌, ◌≤◌, length};
+ghost use Rattle.server.specs.Refusals.{refusal_code, refusal_text};
+
+use crate::desk_fault::DeskFault;
+use replcmd::CmdFault;
+
+/// A cause with a code of its own (PostgreSQL 15, appendix A) and a text.
+#[derive(Clone, Copy, PartialEq, Eq)]
+pub enum Refusal {
+    /// A frame that can't be read, or that is out of its place.
+    Violation,
+    /// A startup of another version of the protocol.
+    Version,
+    /// A startup that doesn't ask for `replication=database`.
+    NoReplication,
+    /// The beginning of the initial copy of a table.
+    InitialCopy,
+    /// A text that is no command.
+    Command(CmdFault),
+    /// A command that the desk refused.
+    Asked(DeskFault),
+}
+
+impl Refusal {
+    /// The code and the text.
+    pub fn told(self) -> (&'static str, &'static str)
+        ensures code { result.0.now ≡ refusal_code self }
+        ensures text { result.1.now ≡ refusal_text self }
+        ensures short { (length result.0.now ≤ 40) × (length result.1.now ≤ 40) }
+    {
+        match self {
+            Refusal::Violation => ("08P01", "protocol violation"),
+            Refusal::Version => ("0A000", "unsupported protocol version"),
+            Refusal::NoReplication => ("0A000", "only replication=database is served"),
+            Refusal::InitialCopy => ("0A000", "initial copies are not served"),
+            Refusal::Command(CmdFault::Syntax) => ("42601", "syntax error"),
+            Refusal::Command(CmdFault::BadName) => ("42602", "bad slot name"),
+            Refusal::Command(CmdFault::BadPosition) => ("42601", "bad position"),
+            Refusal::Command(CmdFault::Unsupported) => ("0A000", "not supported"),
+            Refusal::Command(CmdFault::BadOption) => ("22023", "bad option"),
+            Refusal::Command(CmdFault::Memory) => ("53200", "out of memory"),
+            Refusal::Asked(DeskFault::SlotMissing) => ("42704", "slot does not exist"),
+            Refusal::Asked(DeskFault::SlotInUse) => ("55006", "slot is in use"),
+            Refusal::Asked(DeskFault::SlotExists) => ("42710", "slot already exists"),
+            Refusal::Asked(DeskFault::NoSlotPlace) => ("53400", "no slot place is left"),
+            Refusal::Asked(DeskFault::UnknownPublication) => {
+                ("42704", "publication does not exist")
+            }
+            Refusal::Asked(DeskFault::ListConflict) => ("0A000", "different column lists"),
+            Refusal::Asked(DeskFault::NoReader) => ("53400", "too many senders"),
+            Refusal::Asked(DeskFault::Memory) => ("53200", "out of memory"),
+        }
+    }
+}

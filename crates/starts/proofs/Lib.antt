@@ -1,3 +1,0 @@
-pub mod Positions
-pub mod Unread
-pub mod Sections
