@@ -37,7 +37,7 @@ def steps(top):
     row = line[line.index("(") :]
     return [
         ("a session's thread", "under the publisher's lock", [
-            ("scripting sessions hub", "A line of a script, or a call of the library", [Code(line)], ""),
+            ("scripting schedule hub", "A line of a script, or a call of the library", [Code(line)], ""),
             ("txlog store tables", "The table takes the row; its key is held", [Code(f"public.item {row}"), "key 1 held by transaction 700"], REFUSED),
             ("txlog wal shared_log", "One Change goes to the end of the log", map(Code, RECORD), ""),
         ]),
@@ -46,7 +46,7 @@ def steps(top):
             ("reorder chgarena", "It waits with its transaction for the Commit", ["a copy in the arena, in the strand of 700"], "rolled back or aborted: given back, never sent"),
             ("publication rowfilter", "The Commit is read: which of it is published?", ["operation, row filter, column list: all of it"], "not published: no message"),
             ("publication pgoutput", "It becomes a message, behind its Relation", [message], ""),
-            ("sender copyboth frames", "The message goes into XLogData, into CopyData", [head, "and the message"], ""),
+            ("walsender copyboth frames", "The message goes into XLogData, into CopyData", [head, "and the message"], ""),
             ("hub", "A turn's bytes go to the socket", ["Begin, Relation, Insert, Commit: 253 bytes"], ""),
         ]),
         ("a subscriber", "", [

@@ -7,13 +7,13 @@ use anyhow::Result;
 use bytes::BytesMut;
 use catalog::Catalog;
 use chgarena::Arena;
-use sender::Sender;
 use shared_log::{LogName, LogReader};
 use std::alloc::Global;
 use std::io::Print;
 use std::sync::Wait;
 use txlog::{Publisher, SessionFault, Tx};
 use wal::FIRST_POSITION;
+use walsender::Sender;
 
 /// The chunks of the arena in which the sender keeps changes.
 const CHUNKS: usize = 64;

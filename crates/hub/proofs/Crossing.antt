@@ -14,9 +14,9 @@ use Rattle.shared_log.specs.declared.name.LogName as log_name
 use Rattle.shared_log.proofs.reader.LogReader.TheSendSync as reader
 use Rattle.slots.specs.declared.rule.SlotName as slot_name
 use Rattle.reorder.proofs.reorder.Reorder.TheSendSync as reorder
-use Rattle.sender.proofs.outgoing.Outgoing.TheSendSync as outgoing
-use Rattle.sender.specs.contracts.sender.Sender as sender
-use Rattle.sender.specs.contracts.sender.Sender.TheInside as inside
+use Rattle.walsender.proofs.outgoing.Outgoing.TheSendSync as outgoing
+use Rattle.walsender.specs.contracts.sender.Sender as sender
+use Rattle.walsender.specs.contracts.sender.Sender.TheInside as inside
 use Rattle.walsender.specs.contracts.walsender.Walsender as walsender
 use Rattle.connections.specs.contracts.line.Line as line
 use Rattle.connections.proofs.Crossing.{arrival_sync, hold_send, inbox_send}

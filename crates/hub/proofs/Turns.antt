@@ -3,7 +3,7 @@ use Rattle.std.proofs.Common.{◌≡◌, ◌⊎◌, ℕ, true, false, List, [], 
 use Rattle.std.specs.Result.{IsErr, is_err}
 use Rattle.std.specs.declared.option.Option.{Option}
 use Rattle.slots.specs.declared.step.View.{View}
-use Rattle.sender.specs.Sending.{SenderState}
+use Rattle.walsender.specs.Sending.{SenderState}
 use Rattle.std.specs.Io.KnownBytes.{Appends}
 use Rattle.wal.specs.declared.record.Record.{Record}
 use Rattle.shared_log.specs.Readers.{seen_of}

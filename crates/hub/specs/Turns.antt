@@ -6,7 +6,7 @@ use Rattle.slots.specs.declared.step.View.{View}
 use Rattle.server.specs.declared.connection.Phase.TheVariants as phases
 use Rattle.walsender.specs.declared.walsender.Walsender.{Walsender}
 use Rattle.walsender.specs.Serving.{WritesFirst}
-use Rattle.sender.specs.declared.turn_fault.TurnFault.{TurnFault}
+use Rattle.walsender.specs.declared.turn_fault.TurnFault.{TurnFault}
 use Rattle.connections.specs.declared.inbox.Work.{Work}
 use Rattle.hub.specs.Streams.{StreamsOn, keepalives}
 

@@ -7,13 +7,13 @@ ghost use Rattle.hub.specs.Turns.{Ended, EndsTurns, LeavesSlot, TakesTurns, stan
 use crate::streaming::Stream;
 use crate::work_desk::WorkDesk;
 use connections::{ConnectionEnd, Trouble, Work, write_trouble};
-use sender::{SendFault, TurnFault};
 use server::Phase;
 use shared_log::LogName;
 use slots::{SlotName, SlotTable};
 use std::io;
 use std::io::Write;
 use std::sync::Wait;
+use walsender::{SendFault, TurnFault};
 
 /// Writes a stream, and behind it what is said at its end. Where its client did not ask for that, the connection is over, and
 /// what the client flushed last is confirmed too: all that it sent has been read by then.

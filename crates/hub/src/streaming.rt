@@ -18,14 +18,13 @@ ghost use Rattle.hub.specs.Turns.{Confirms};
 use crate::grant::StreamGrant;
 use commons::{CommitNotice, Pair};
 use connections::{Hold, Work};
-use sender::{SendFault, TurnFault};
 use server::Phase;
 use shared_log::LogName;
 use slots::{SlotName, SlotTable};
 use std::alloc::Global;
 use std::io;
 use std::io::Write;
-use walsender::Walsender;
+use walsender::{SendFault, TurnFault, Walsender};
 
 /// The clock of all that streams say.
 const CLOCK: i64 = 0;

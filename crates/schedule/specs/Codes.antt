@@ -2,8 +2,8 @@
 use Rattle.std.specs.Prelude.{ℕ, codes, List, Option, Some, None}
 use Rattle.txlog.specs.Publishing.{code_of}
 use Rattle.publication_config.specs.Faults.{publication_code_of}
-use Rattle.sender.specs.declared.fault.SendFault.{SendFault}
-use Rattle.sender.specs.declared.fault.SendFault.TheVariants as sends
+use Rattle.walsender.specs.declared.fault.SendFault.{SendFault}
+use Rattle.walsender.specs.declared.fault.SendFault.TheVariants as sends
 use Rattle.client.specs.declared.fault.ClientFault.{ClientFault}
 use Rattle.client.specs.declared.fault.ClientFault.TheVariants as clients
 use Rattle.schedule.specs.declared.answer.Answer.{Answer}

@@ -1,1 +1,5 @@
 pub mod Codes
+pub mod Transactions
+pub mod Rows
+pub mod SessionLines
+pub mod Sessions

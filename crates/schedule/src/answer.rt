@@ -2,9 +2,9 @@
 
 use client::ClientFault;
 use publication_config::PubFault;
-use sender::SendFault;
 use slots::SlotFault;
 use txlog::SessionFault;
+use walsender::SendFault;
 
 /// What an event that happened answered: it was done, or the part that it asked refused it.
 #[derive(Clone, Copy, Debug, PartialEq, Eq)]

@@ -5,7 +5,7 @@ ghost use Rattle.schedule.specs.Codes.{answer_code};
 
 use crate::answer::Answer;
 use client::ClientFault;
-use sender::SendFault;
+use walsender::SendFault;
 
 impl Answer {
     /// The refusal's code, or none where the event was done.

@@ -1,11 +1,13 @@
-//! Schedules: texts of one event a line that drive a publisher, and what is printed of their answers. Nothing here has a
-//! state of the publisher; crate `world` runs the events.
+//! Schedules: texts of one event a line that drive a publisher, what is printed of their answers, and the sessions that their lines
+//! name.
 //!
-//! `Schedule::parse` reads a text, `Answer` is what an event answered, and `write_refusals`, `write_stream`,
-//! `write_slot` and `write_subscriber` print.
+//! `Schedule::parse` reads a text, `Answer` is what an event answered, and `write_refusals`, `write_stream`, `write_slot` and
+//! `write_subscriber` print. `Sessions::line` does the line of a session: it begins, changes or ends a transaction, or sets and leaves
+//! its savepoints, by one call of the publisher. Crate `world` runs the other events.
 #![tactic(auto)]
 
 mod answer;
+mod calls;
 mod codes;
 mod event;
 mod fault;
@@ -13,7 +15,10 @@ mod fields;
 mod literals;
 mod parse;
 mod report;
+mod rows;
 mod schedule;
+mod session;
+mod sessions;
 mod start_options;
 
 pub use answer::Answer;
@@ -21,4 +26,5 @@ pub use event::{ConnectionStep, Event, Literal, SessionStep};
 pub use fault::{BadEvent, WorldFault};
 pub use report::{write_refusals, write_slot, write_stream, write_subscriber};
 pub use schedule::{LineFault, Schedule};
+pub use sessions::Sessions;
 pub use start_options::StartOptions;

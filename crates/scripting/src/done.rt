@@ -3,8 +3,7 @@
 use crate::outcome::Done;
 use crate::step::{Steering, Step};
 use hub::{Hub, SteerFault};
-use schedule::{Answer, Event};
-use sessions::Sessions;
+use schedule::{Answer, Event, Sessions};
 use shared_log::LogName;
 use slots::SlotName;
 use std::alloc::AllocError;

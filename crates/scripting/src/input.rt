@@ -7,7 +7,7 @@ use crate::outcome::{Done, answer};
 use crate::step::Step;
 use crate::steps::ScriptEnd;
 use hub::Hub;
-use sessions::Sessions;
+use schedule::Sessions;
 use shared_log::LogName;
 use slots::SlotName;
 use std::alloc::AllocError;

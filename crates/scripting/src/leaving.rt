@@ -1,7 +1,7 @@
 //! What a script leaves behind.
 
 use hub::Hub;
-use sessions::Sessions;
+use schedule::Sessions;
 use shared_log::LogName;
 use slots::SlotName;
 use std::sync::{MutexGuard, Wait};

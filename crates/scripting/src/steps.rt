@@ -6,7 +6,7 @@ use crate::leaving::leave_all;
 use crate::numbered_steps::Steps;
 use crate::outcome::{Done, tell};
 use hub::Hub;
-use sessions::Sessions;
+use schedule::Sessions;
 use shared_log::LogName;
 use slots::SlotName;
 use std::io::Write;

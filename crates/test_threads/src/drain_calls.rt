@@ -3,13 +3,13 @@
 use crate::log_fixture::{CHUNKS, commit_under_lock, sender_of_p};
 use crate::turn_calls::{FIRST_BLOCK, LENGTH};
 use crate::work::{Work, do_work};
-use sender::Sender;
 use shared_log::{LogName, LogReader};
 use std::alloc::{AllocError, Global};
 use std::process::Abort;
 use std::sync::{Mutex, Wait};
 use std::test::Fail;
 use txlog::Publisher;
+use walsender::Sender;
 
 /// So many bytes of the block are moved out while its only change still lies in the arena: all before its Commit's frame but one.
 const WITH_CHANGE: usize = 196;

@@ -4,7 +4,6 @@ use catalog::Catalog;
 use chgarena::Arena;
 use pqformat::Text;
 use publication::{Publications, Selection};
-use sender::Sender;
 use shared_log::{LogName, LogReader, ReadFault};
 use std::alloc::{AllocError, Global};
 use std::sync::{Arc, Mutex, MutexGuard, Wait};
@@ -13,6 +12,7 @@ use std::thread::{Threads, join};
 use tables::{Row, Value};
 use txlog::{Opened, Publisher, Receipt, SessionFault};
 use wal::{Body, FIRST_POSITION, Record};
+use walsender::Sender;
 
 /// The chunks of the arena in which the sender keeps changes.
 pub const CHUNKS: usize = 64;

@@ -4,7 +4,6 @@ ghost use Rattle.std.specs.Prelude.{Some};
 
 use crate::log_fixture::{TIME, commit_elsewhere, commit_under_lock, sender_of_p};
 use crate::work::{Work, do_work};
-use sender::{Sender, TurnFault, turn};
 use shared_log::{LogName, LogReader};
 use std::alloc::{AllocError, Global};
 use std::io;
@@ -15,6 +14,7 @@ use std::test::Fail;
 use std::thread::Threads;
 use txlog::Publisher;
 use wal::{Body, Record};
+use walsender::{Sender, TurnFault, turn};
 
 /// What is sent of a transaction that inserts (1,'ab',7), commits with time 5 and is read with clock 9: the sample of
 /// docs/PROTOCOL.md.

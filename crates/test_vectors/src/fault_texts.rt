@@ -8,11 +8,11 @@ use publication::PubFault;
 use reorder::ReorderFault;
 use rowfilter::FilterFault;
 use schedule::{Answer, WorldFault};
-use sender::SendFault;
 use slots::SlotFault;
 use std::fmt::{Debug, Display};
 use tables::BodyFault;
 use txlog::SessionFault;
+use walsender::SendFault;
 
 const FRAME_FAULTS: [FrameFault; 7] = [
     FrameFault::BadLength,

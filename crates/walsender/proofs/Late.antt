@@ -8,8 +8,8 @@ use Rattle.wal.specs.Log.{kept_changes, note_as_transaction, Transaction, commit
 use Rattle.publication.specs.Publications.{PublicationSet}
 use Rattle.pgoutput.specs.declared.published.Published.{Published}
 use Rattle.pgoutput.proofs.Lists.{all_of_both}
-use Rattle.sender.specs.Published.{published_as, has_message, published_from}
-use Rattle.sender.proofs.Sections.{followed}
+use Rattle.walsender.specs.Published.{published_as, has_message, published_from}
+use Rattle.walsender.proofs.Sections.{followed}
 
 all_filter : {A : Type 0} (P : A → Type 0) (p : A → Bool) (xs : List A) → AllByRecursion P xs → AllByRecursion P (filter p xs)
 all_filter P p [] all = tt

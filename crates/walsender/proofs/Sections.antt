@@ -1,60 +1,67 @@
--- A part of a log that is read next.
-use Rattle.std.proofs.Common.{◌≡◌, ◌≤◌, ◌+◌, ℕ, true, List, [], ◌++◌, length, take, drop, sym, ap, subst, ◌∙◌, append_assoc, arith}
+-- The records of a section of a well-formed log may follow each other.
+use Rattle.std.proofs.Common.{◌≡◌, ◌<◌, ◌≤◌, ◌==◌, ℕ, Bool, true, false, cond, List, [], ◌∷◌, ◌++◌, refl, sym, subst, ◌∙◌, append_assoc, arith}
 use Rattle.std.specs.List.{AllByRecursion}
-use Rattle.std.proofs.lemmas.List.{take-append-drop, take_at, length-append, length-take}
+use Rattle.std.proofs.lemmas.Bool.{eqb-true}
 use Rattle.wal.specs.declared.record.TheConstants.{FIRST_POSITION}
 use Rattle.wal.specs.declared.record.Record.{Record}
-use Rattle.wal.specs.Log.{IsWellFormedLog, IsSized, follows, end_of}
-use Rattle.sender.specs.Sending.{MayFollow}
-use Rattle.sender.proofs.Sections.{all_front, follows_parts, section_may_follow}
+use Rattle.wal.specs.Log.{IsWellFormedLog, IsSized, WellFormedAfter, follows, end_of}
+use Rattle.wal.proofs.Laws.{follows-append, WellFormedAfter-front, WellFormedAfter-back}
+use Rattle.reorder.specs.Taking.{StartsBehind}
+use Rattle.reorder.proofs.Sections.{next_within}
+use Rattle.row_messages.proofs.Rows.{both_true}
+use Rattle.walsender.specs.Sending.{MayFollow}
 
-pub record IsSection (log : List Record) (place : ℕ) (section : List Record) : Type 0 where
-  pub rest : List Record
-  pub whole : log ≡ (take place log ++ section) ++ rest
-  pub len : length (take place log) ≡ place
-  pub good : IsWellFormedLog log
+pub all_front : {A : Type 0} (P : A → Type 0) (xs ys : List A) → AllByRecursion P (xs ++ ys) → AllByRecursion P xs
+all_front P [] ys all = tt
+all_front P (x ∷ xs) ys all = (all.0, all_front P xs ys all.1)
 
-pub section_of : (log : List Record) (place max : ℕ) → place ≤ length log → IsWellFormedLog log → IsSection log place (take max (drop place log))
-section_of log place max le good = record {
-  rest = drop max (drop place log);
-  whole = sym (append_assoc (take place log) (take max (drop place log)) (drop max (drop place log)) ∙ ap (λ l. take place log ++ l) (take-append-drop max (drop place log)) ∙ take-append-drop place log);
-  len = omega (arith, length-take place log);
-  good = good;
-}
+pub all_back : {A : Type 0} (P : A → Type 0) (xs ys : List A) → AllByRecursion P (xs ++ ys) → AllByRecursion P ys
+all_back P [] ys all = all
+all_back P (x ∷ xs) ys all = all_back P xs ys all.1
 
--- fewer of the same records
-pub section_front : (log : List Record) (place count : ℕ) (section : List Record) → IsSection log place section → IsSection log place (take count section)
-section_front log place count section s = record {
-  rest = drop count section ++ s.rest;
-  whole = s.whole ∙ ap (λ l. (take place log ++ l) ++ s.rest) (sym (take-append-drop count section)) ∙ ap (λ l. l ++ s.rest) (sym (append_assoc (take place log) (take count section) (drop count section)))
-      ∙ append_assoc (take place log ++ take count section) (drop count section) s.rest;
-  len = s.len;
-  good = s.good;
-}
+-- the first record starts where it is to, and the others follow it
+pub followed : (at : ℕ) (r : Record) (rs : List Record) → follows at (r ∷ rs) ≡ true → (r.start ≡ at) × (follows r.end rs ≡ true)
+followed at r rs e = by_test (r.start == at) (λ is. eqb-true r.start at is) e
+  where
+    by_test : (b : Bool) → (b ≡ true → r.start ≡ at) → cond b (follows r.end rs) false ≡ true → (r.start ≡ at) × (follows r.end rs ≡ true)
+    by_test true same e = (same refl, e)
+    by_test false same e = absurd cc
 
-pub take_section : (log : List Record) (place : ℕ) (section : List Record) → IsSection log place section → take (place + length section) log ≡ take place log ++ section
-take_section log place section s =
-    ap (take (place + length section)) s.whole ∙ take_at (take place log ++ section) s.rest (place + length section) (omega (arith, length-append (take place log) section, s.len))
+-- the parts of records that follow each other
+pub follows_parts : (at : ℕ) (m n : List Record) → follows at (m ++ n) ≡ true → (follows at m ≡ true) × (follows (end_of at m) n ≡ true)
+follows_parts at m n e = both_true (follows at m) (follows (end_of at m) n) (sym (follows-append at m n) ∙ e)
 
-pub within_section : (log : List Record) (place : ℕ) (section : List Record) → IsSection log place section → place + length section ≤ length log
-within_section log place section s = omega (arith, ap length s.whole, length-append (take place log ++ section) s.rest, length-append (take place log) section, s.len)
+-- each of them starts before their end
+pub starts_below : (at : ℕ) (before : List Record) → follows at before ≡ true → AllByRecursion IsSized before → (at ≤ end_of at before) × AllByRecursion (λ (q : Record). q.start < end_of at before) before
+starts_below at [] goes sized = (omega arith, tt)
+starts_below at (r ∷ before) goes sized =
+    let next = followed at r before goes in
+    let inner = starts_below r.end before next.1 sized.1 in
+    (omega (arith, next.0, sized.0, inner.0), (omega (arith, next.0, sized.0, inner.0), inner.1))
 
-pub record IsNextPart (log : List Record) (place : ℕ) (section : List Record) : Type 0 where
-  pub goes : follows FIRST_POSITION (take place log ++ section) ≡ true
-  pub sized : AllByRecursion IsSized (take place log ++ section)
-  pub follows_on : follows (end_of FIRST_POSITION (take place log)) section ≡ true
-  pub may : MayFollow (take place log) section
+-- Records `skipped`, `before` and `rs` of a log: behind `before` the others may follow, whatever was skipped.
+pub may_follow : (at : ℕ) (skipped before rs : List Record) → follows at (before ++ rs) ≡ true → AllByRecursion IsSized (before ++ rs) → WellFormedAfter skipped (before ++ rs) → MayFollow before rs
+may_follow at skipped before [] goes sized order = tt
+may_follow at skipped before (r ∷ rs) goes sized order =
+    let parts = follows_parts at before (r ∷ rs) goes in
+    let here = followed (end_of at before) r rs parts.1 in
+    let below = starts_below at before parts.0 (all_front IsSized before (r ∷ rs) sized) in
+    let behind : StartsBehind before r = let P : ℕ → Type 0 = λ n. AllByRecursion (λ (q : Record). q.start < n) before in subst P (sym here.0) below.1 in
+    let next = next_within skipped before r.body (WellFormedAfter-front skipped before (r ∷ rs) order) (WellFormedAfter-back skipped before (r ∷ rs) order).0 in
+    let regrouped : (before ++ r ∷ []) ++ rs ≡ before ++ r ∷ rs = append_assoc before (r ∷ []) rs in
+    let F : List Record → Type 0 = λ l. follows at l ≡ true in
+    let S : List Record → Type 0 = λ l. AllByRecursion IsSized l in
+    let W : List Record → Type 0 = λ l. WellFormedAfter skipped l in
+    (next, behind, may_follow at skipped (before ++ r ∷ []) rs (subst F (sym regrouped) goes) (subst S (sym regrouped) sized) (subst W (sym regrouped) order))
 
-pub next_part : (log : List Record) (place : ℕ) (section : List Record) → IsSection log place section → IsNextPart log place section
-next_part log place section s =
-    let pre = take place log in
+-- the same of a section of a log: what stands before it was skipped, what stands behind it is not read yet
+pub section_may_follow : (log skipped before rs rest : List Record) → IsWellFormedLog log → log ≡ skipped ++ ((before ++ rs) ++ rest) → MayFollow before rs
+section_may_follow log skipped before rs rest good whole =
     let F : List Record → Type 0 = λ l. follows FIRST_POSITION l ≡ true in
     let S : List Record → Type 0 = λ l. AllByRecursion IsSized l in
-    let goes = (follows_parts FIRST_POSITION (pre ++ section) s.rest (subst F s.whole s.good.follows)).0 in
-    let sized = all_front IsSized (pre ++ section) s.rest (subst S s.whole s.good.sizes) in
-    record {
-      goes = goes;
-      sized = sized;
-      follows_on = (follows_parts FIRST_POSITION pre section goes).1;
-      may = section_may_follow log [] pre section s.rest s.good s.whole;
-    }
+    let W : List Record → Type 0 = λ l. WellFormedAfter [] l in
+    let goes = (follows_parts FIRST_POSITION skipped ((before ++ rs) ++ rest) (subst F whole good.follows)).1 in
+    let sized = all_back IsSized skipped ((before ++ rs) ++ rest) (subst S whole good.sizes) in
+    let order = WellFormedAfter-back [] skipped ((before ++ rs) ++ rest) (subst W whole good.order) in
+    may_follow (end_of FIRST_POSITION skipped) skipped before rs (follows_parts (end_of FIRST_POSITION skipped) (before ++ rs) rest goes).0
+    (all_front IsSized (before ++ rs) rest sized) (WellFormedAfter-front skipped (before ++ rs) rest order)

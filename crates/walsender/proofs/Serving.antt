@@ -17,17 +17,17 @@ use Rattle.pgoutput.specs.declared.published.Published.{Published}
 use Rattle.pgoutput.specs.Words.{word_bytes}
 use Rattle.pgoutput.specs.Items.{keepalive_word}
 use Rattle.pgoutput.specs.Stream.{IsStream}
-use Rattle.sender.specs.declared.fault.SendFault.{SendFault}
-use Rattle.sender.specs.declared.fault.SendFault.TheVariants as sends
-use Rattle.sender.specs.Published.{published_from, published_transactions}
-use Rattle.sender.specs.Lent.{AreLastOf, sent_transactions}
-use Rattle.sender.proofs.Lasting.{last_then}
-use Rattle.sender.specs.Sending.{SenderState, HasRead, published_bytes, AddsPublished, ReadAll, RanOut}
-use Rattle.sender.specs.Turning.{IsRefused}
-use Rattle.sender.proofs.Sections.{all_back, starts_below}
+use Rattle.walsender.specs.declared.fault.SendFault.{SendFault}
+use Rattle.walsender.specs.declared.fault.SendFault.TheVariants as sends
+use Rattle.walsender.specs.Published.{published_from, published_transactions}
+use Rattle.walsender.specs.Lent.{AreLastOf, sent_transactions}
+use Rattle.walsender.proofs.Lasting.{last_then}
+use Rattle.walsender.specs.Sending.{SenderState, HasRead, published_bytes, AddsPublished, ReadAll, RanOut}
+use Rattle.walsender.specs.Turning.{IsRefused}
+use Rattle.walsender.proofs.Sections.{all_back, starts_below}
 use Rattle.walsender.specs.Serving.{BeginsAt, ReadsFrom, IsStreaming, IsServing, Reads, next_records}
 use Rattle.walsender.proofs.Late.{published_late}
-use Rattle.walsender.proofs.Sections.{IsSection, next_part, section_front, section_of, take_section, within_section}
+use Rattle.walsender.proofs.ServedSections.{IsSection, next_part, section_front, section_of, take_section, within_section}
 use Rattle.walsender.proofs.Skipping.{adds_whole, drop_section, from_grown, from_within, nothing_skipped, reads_behind}
 use Rattle.walsender.proofs.Streams.{stream_read, stream_kept_alive, stream_moved, stream_new}
 

@@ -13,11 +13,11 @@ use Rattle.publication.specs.Publications.{PublicationSet}
 use Rattle.publication.specs.Selection.{relation}
 use Rattle.pgoutput.specs.declared.published.Published.{Published}
 use Rattle.pgoutput.specs.Items.{FitsPublished}
-use Rattle.sender.specs.Published.{published_transactions, published_as, published_from, has_message}
-use Rattle.sender.specs.Sending.{SenderState, AddsPublished, MayFollow, published_bytes}
-use Rattle.sender.proofs.Sections.{section_may_follow}
+use Rattle.walsender.specs.Published.{published_transactions, published_as, published_from, has_message}
+use Rattle.walsender.specs.Sending.{SenderState, AddsPublished, MayFollow, published_bytes}
+use Rattle.walsender.proofs.Sections.{section_may_follow}
 use Rattle.walsender.specs.Serving.{BeginsAt, ReadsFrom}
-use Rattle.walsender.proofs.Sections.{IsSection}
+use Rattle.walsender.proofs.ServedSections.{IsSection}
 
 -- ---- The place of a start.
 

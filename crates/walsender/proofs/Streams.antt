@@ -16,9 +16,9 @@ use Rattle.pgoutput.specs.Words.{word_bytes, frames_of}
 use Rattle.pgoutput.specs.Items.{Item, KeepaliveItem, Block, keepalive_word, item_words, words_of, bytes_of_items, transactions_of, relations_sent_by_all, relations_sent_through, FitsPublished, FitsItem, FitItems}
 use Rattle.pgoutput.specs.Stream.{IsStream, AreSafeKeepalives}
 use Rattle.pgoutput.proofs.Lists.{all_of_both}
-use Rattle.sender.specs.Published.{published_from, published_transactions}
-use Rattle.sender.specs.Sending.{blocks, published_bytes}
-use Rattle.sender.proofs.Batches.{published_from-append}
+use Rattle.walsender.specs.Published.{published_from, published_transactions}
+use Rattle.walsender.specs.Sending.{blocks, published_bytes}
+use Rattle.walsender.proofs.Batches.{published_from-append}
 
 -- ---- items behind items
 

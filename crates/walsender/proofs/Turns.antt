@@ -1,101 +1,21 @@
--- A turn of a walsender, however it ends.
-use Rattle.std.proofs.Common.{◌≡◌, ◌+◌, ◌<◌, ℕ, ℤ, true, false, List, [], ◌++◌, length, drop, take, refl, ap, sym, subst, ◌∙◌}
-use Rattle.std.proofs.lemmas.List.{append-nil}
-use Rattle.std.specs.Prelude.{FitsSigned, Result, Ok, Err, OnOk}
-use Rattle.std.specs.Int.{w64}
+-- What is written piece by piece.
+use Rattle.std.proofs.Common.{◌≡◌, ℕ, ℤ, ◌+◌, List, ◌++◌, take, drop, true, false, sym, subst}
+use Rattle.std.proofs.Math.Seq.{take-add}
 use Rattle.std.specs.Io.KnownBytes.{Appends}
-use Rattle.std.proofs.KnownBytes.{Appends-nil}
-use Rattle.std.specs.declared.io.Error.{Error}
+use Rattle.std.proofs.KnownBytes.{Appends-trans}
 use Rattle.std.specs.declared.option.Option.{Option}
-use mathlib.Core.List.{IsPrefix}
 use Rattle.wal.specs.declared.record.Record.{Record}
-use Rattle.wal.specs.Log.{IsWellFormedLog}
-use Rattle.sender.specs.declared.fault.SendFault.{SendFault}
-use Rattle.sender.specs.declared.turn_fault.TurnFault.{TurnFault}
-use Rattle.sender.specs.declared.turn_fault.TurnFault.TheVariants as turns
-use Rattle.sender.specs.Faults.{has_fetched, has_written}
-use Rattle.sender.specs.Published.{published_from, published_transactions}
-use Rattle.sender.specs.Sending.{SenderState, published_bytes}
-use Rattle.sender.specs.Turning.{IsRefused, ReadAndGave, fetched_from}
-use Rattle.sender.specs.declared.limits.TheConstants.{TURN_RECORDS}
-use Rattle.walsender.specs.Serving.{IsServing, ReadsAndWrites}
-use Rattle.walsender.proofs.Sections.{section_of}
-use Rattle.walsender.proofs.Skipping.{reads_behind}
-use Rattle.walsender.proofs.Serving.{given, grown_to, nothing_given, read_on, reading}
+use Rattle.wal.specs.Log.{follows}
+use Rattle.walsender.specs.Lent.{AreLastOf}
+use Rattle.walsender.specs.Sending.{SenderState, ReadAll}
+use Rattle.walsender.specs.Turning.{ReadAndGave}
 
--- what a turn tells
-pub record Turns (clock : ℤ) (old new : SenderState) (place moved_to : ℕ) (seen : List Record) (before after : Option (List ℕ)) (r : Result ℕ TurnFault) : Type 0 where
-  pub moved : has_fetched r ≡ true → moved_to ≡ place + length (fetched_from place seen)
-  pub good : has_fetched r ≡ true → IsWellFormedLog seen
-  pub unfetched : has_fetched r ≡ false → (moved_to ≡ place) × (new ≡ old)
-  pub sent : OnOk r ((bytes : List ℕ) × ReadAndGave clock old new (fetched_from place seen) bytes × (new.held ≡ []) × Appends before after bytes)
-  pub broken : (e : Error) → r ≡ Err (turns.Write e) → (bytes : List ℕ) × ReadAndGave clock old new (fetched_from place seen) bytes × (0 < length new.held) × Appends before after bytes
-  pub refused : (e : SendFault) → r ≡ Err (turns.Sender e) → IsRefused clock old new (fetched_from place seen) e
-  pub silent : has_written r ≡ false → after ≡ before
+pub more_taken : (a b c : Option (List ℕ)) (bytes : List ℕ) (taken n : ℕ) → Appends a b (take taken bytes) → Appends b c (take n (drop taken bytes)) → Appends a c (take (taken + n) bytes)
+more_taken a b c bytes taken n p q = subst (Appends a c) (sym (take-add taken n bytes)) (Appends-trans a b c _ _ p q)
 
--- a turn that went well wrote what was held before all that it read
-pub held_first : (clock : ℤ) (old new : SenderState) (place : ℕ) (early seen : List Record) (before after : Option (List ℕ)) (written bytes : List ℕ) → IsPrefix early seen → IsWellFormedLog seen
-    → ReadAndGave clock old new (fetched_from place seen) bytes → new.held ≡ [] → Appends before after bytes → IsServing early place written old → (more : List ℕ) × Appends before after (old.held ++ more)
-held_first clock old new place early seen before after written bytes begins good read empty appended serving =
-    let r = reading seen place written old (grown_to early seen place written old begins serving) read.running in
-    let part = section_of seen place TURN_RECORDS r.streaming.within good in
-    let from = (grown_to early seen place written old begins serving).from in
-    let behind = reads_behind old.selection old.start from place seen (fetched_from place seen) part (grown_to early seen place written old begins serving).reads_from r.since in
-    let added = (read.read.after (drop from (take place seen)) r.read behind.may).1 in
-    let more = published_bytes old.selection clock (published_transactions old.selection (drop from (take place seen)) old.start) (published_from old.selection old.start (drop from (take place seen)) (fetched_from place seen)) in
-    let whole : bytes ≡ old.held ++ more = sym (append-nil bytes) ∙ ap (λ (l : List ℕ). bytes ++ l) (sym empty) ∙ sym read.parts ∙ added.adds in
-    let P : List ℕ → Type 0 = λ l. Appends before after l in
-    (more, subst P whole appended)
+-- ---- a whole turn
 
-pub first : (clock : ℤ) (old new : SenderState) (place moved_to : ℕ) (early seen : List Record) (before after : Option (List ℕ)) (r : Result ℕ TurnFault) → IsPrefix early seen → Turns clock old new place moved_to seen before after r
-    → OnOk r ((written : List ℕ) → IsServing early place written old → (more : List ℕ) × Appends before after (old.held ++ more))
-first clock old new place moved_to early seen before after (Ok n) begins t =
-    λ written serving.
-    let (bytes, read, empty, appended) = t.sent in
-    held_first clock old new place early seen before after written bytes begins (t.good refl) read empty appended serving
-first clock old new place moved_to early seen before after (Err e) begins t = tt
-
-pub reads : (clock : ℤ) (old new : SenderState) (place moved_to : ℕ) (seen : List Record) (before after : Option (List ℕ)) (r : Result ℕ TurnFault) → Turns clock old new place moved_to seen before after r
-    → OnOk r (ReadsAndWrites clock old new (fetched_from place seen) before after)
-reads clock old new place moved_to seen before after (Ok n) t = let (bytes, read, empty, appended) = t.sent in (bytes, read, appended)
-reads clock old new place moved_to seen before after (Err e) t = tt
-
-abbrev pub GoesFrom : List Record → List Record → ℕ → ℕ → SenderState → SenderState → Option (List ℕ) → Option (List ℕ) → Type 0
-GoesFrom early seen place moved_to old new before after =
-    (bytes : List ℕ) × ((written : List ℕ) → IsServing early place written old → IsServing seen moved_to (written ++ bytes) new) × Appends before after bytes
-
-gave : (clock : ℤ) (old new : SenderState) (place moved_to : ℕ) (early seen : List Record) (before after : Option (List ℕ)) → FitsSigned w64 clock → IsPrefix early seen → IsWellFormedLog seen
-    → moved_to ≡ place + length (fetched_from place seen) → ReadsAndWrites clock old new (fetched_from place seen) before after → GoesFrom early seen place moved_to old new before after
-gave clock old new place moved_to early seen before after fits begins good moved (bytes, read, appended) = (
-  bytes,
-  λ written serving.
-      given seen moved_to written bytes read.fed new read.parts read.rest read.lent
-      (read_on seen place moved_to TURN_RECORDS clock written old read.fed (Ok tt) good fits moved (read.running, read.read, read.runs_on) (grown_to early seen place written old begins serving)),
-  appended,
-)
-
-silent : (place moved_to : ℕ) (early seen : List Record) (old new : SenderState) (before after : Option (List ℕ)) → after ≡ before
-    → ((written : List ℕ) → IsServing early place written old → IsServing seen moved_to written new) → GoesFrom early seen place moved_to old new before after
-silent place moved_to early seen old new before after same goes =
-    let P : Option (List ℕ) → Type 0 = λ o. Appends before o [] in
-    ([], λ written serving. nothing_given seen moved_to written new (goes written serving), subst P (sym same) (Appends-nil before))
-
-stays : (place moved_to : ℕ) (early seen : List Record) (old new : SenderState) → IsPrefix early seen → (moved_to ≡ place) × (new ≡ old)
-    → (written : List ℕ) → IsServing early place written old → IsServing seen moved_to written new
-stays place moved_to early seen old new begins same written serving = rw (same.0, same.1) (grown_to early seen place written old begins serving)
-
-pub turned : (clock : ℤ) (old new : SenderState) (place moved_to : ℕ) (early seen : List Record) (before after : Option (List ℕ)) (r : Result ℕ TurnFault) → FitsSigned w64 clock → IsPrefix early seen
-    → Turns clock old new place moved_to seen before after r → GoesFrom early seen place moved_to old new before after
-turned clock old new place moved_to early seen before after (Ok n) fits begins t =
-    gave clock old new place moved_to early seen before after fits begins (t.good refl) (t.moved refl) (let (bytes, read, empty, appended) = t.sent in (bytes, read, appended))
-turned clock old new place moved_to early seen before after (Err (turns.Write e)) fits begins t =
-    gave clock old new place moved_to early seen before after fits begins (t.good refl) (t.moved refl) (let (bytes, read, left, appended) = t.broken e refl in (bytes, read, appended))
-turned clock old new place moved_to early seen before after (Err (turns.Sender e)) fits begins t =
-    silent place moved_to early seen old new before after (t.silent refl)
-    (λ written serving. read_on seen place moved_to TURN_RECORDS clock written old new (Err e) (t.good refl) fits (t.moved refl) (t.refused e refl) (grown_to early seen place written old begins serving))
-turned clock old new place moved_to early seen before after (Err turns.Memory) fits begins t =
-    silent place moved_to early seen old new before after (t.silent refl) (stays place moved_to early seen old new begins (t.unfetched refl))
-turned clock old new place moved_to early seen before after (Err turns.NoEntry) fits begins t =
-    silent place moved_to early seen old new before after (t.silent refl) (stays place moved_to early seen old new begins (t.unfetched refl))
-turned clock old new place moved_to early seen before after (Err turns.Stale) fits begins t =
-    silent place moved_to early seen old new before after (t.silent refl) (stays place moved_to early seen old new begins (t.unfetched refl))
+pub turned : (clock : ℤ) (old fed new : SenderState) (rs fetched : List Record) (given : List ℕ) → rs ≡ fetched → old.failed ≡ false → follows old.position rs ≡ true → ReadAll clock old fed rs → fed.failed ≡ false
+    → fed.held ≡ given ++ new.held → new ≡ record fed { held = new.held; lent = new.lent } → AreLastOf new.lent fed.lent → ReadAndGave clock old new fetched given
+turned clock old fed new rs fetched given same running follow read runs_on parts rest lent =
+    subst (λ l. ReadAndGave clock old new l given) same (record { running = running; follow = follow; fed = fed; read = read; runs_on = runs_on; parts = parts; rest = rest; lent = lent })

@@ -1,2 +1,10 @@
 pub mod Beginning
 pub mod Serving
+pub mod Published
+pub mod Spelled
+pub mod Waiting
+pub mod Lent
+pub mod Outgoing
+pub mod Sending
+pub mod Turning
+pub mod Faults

@@ -9,10 +9,10 @@ use Rattle.wal.specs.Restart.{restart_place}
 use Rattle.publication.specs.Selection.{relation}
 use Rattle.pgoutput.specs.Stream.{IsStream}
 use Rattle.shared_log.specs.Readers.{seen_of}
-use Rattle.sender.specs.declared.fault.SendFault.{SendFault}
-use Rattle.sender.specs.Published.{published_transactions}
-use Rattle.sender.specs.Sending.{SenderState, HasRead, ReadAll}
-use Rattle.sender.specs.Turning.{IsRefused, ReadAndGave}
+use Rattle.walsender.specs.declared.fault.SendFault.{SendFault}
+use Rattle.walsender.specs.Published.{published_transactions}
+use Rattle.walsender.specs.Sending.{SenderState, HasRead, ReadAll}
+use Rattle.walsender.specs.Turning.{IsRefused, ReadAndGave}
 use Rattle.walsender.specs.declared.walsender.Walsender.{Walsender}
 
 -- So many records of a log were read; what was written since the start, followed by what is held, is a stream encoding of

@@ -1,12 +1,38 @@
-//! A walsender without threads and sockets: a sender with the reader of the log that feeds it, from the start of a stream to its
-//! end.
+//! A walsender without threads and sockets: from records of the log to the bytes of a stream, with the reader of the log that feeds
+//! it, from the start of a stream to its end.
 //!
-//! `begin` judges whether a stream may begin, in the order of the refusals. `Walsender::begin` makes one. Then, in any order and any number of times: `read` or `turn` reads the log on, `keepalive` adds
-//! a keepalive, `turn`, `write_held` and `drain_into` give bytes away. `end` gives the reader back.
+//! `begin` judges whether a stream may begin, in the order of the refusals. `Walsender::begin` makes one. Then, in any order and any
+//! number of times: `read` or `turn` reads the log on, `keepalive` adds a keepalive, `turn`, `write_held` and `drain_into` give bytes
+//! away. `end` gives the reader back. `Sender` is its core, which is fed records.
 #![tactic(auto)]
 
 mod beginning;
+mod bounds;
+mod draining;
+mod ended;
+mod fault;
+mod feeding;
+mod filling;
+mod header;
+mod limits;
+mod making;
+mod named;
+mod outgoing;
+mod publishing;
+mod section;
+mod sender;
+mod turn_fault;
+mod turning;
+mod waiting;
 mod walsender;
+mod word;
 
 pub use beginning::{ClaimFault, StartDesk, StartFault, begin};
+pub use ended::Ended;
+pub use fault::SendFault;
+pub use limits::TURN_RECORDS;
+pub use section::a_section_may_be_fed;
+pub use sender::Sender;
+pub use turn_fault::TurnFault;
+pub use turning::turn;
 pub use walsender::Walsender;

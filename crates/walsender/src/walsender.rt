@@ -11,16 +11,20 @@ ghost use Rattle.pgoutput.specs.Items.{keepalive_word};
 ghost use Rattle.shared_log.specs.Fronts.{settled_records};
 ghost use Rattle.shared_log.specs.Readers.{HasSeen, seen_of};
 ghost use Rattle.shared_log.specs.declared.fault.ReadFault.{ReadFault};
-ghost use Rattle.sender.specs.Faults.{fault_of_fetch, has_fetched, has_written};
-ghost use Rattle.sender.specs.Lent.{AreLastOf};
-ghost use Rattle.sender.specs.Sending.{HasChunks, HasRead, LeavesChunks};
-ghost use Rattle.sender.specs.Turning.{fetched_from};
+ghost use Rattle.walsender.specs.Faults.{fault_of_fetch, has_fetched, has_written};
+ghost use Rattle.walsender.specs.Lent.{AreLastOf};
+ghost use Rattle.walsender.specs.Sending.{HasChunks, HasRead, LeavesChunks};
+ghost use Rattle.walsender.specs.Turning.{fetched_from};
 ghost use Rattle.walsender.specs.Serving.{BeginsAt, Gives, GoesOn, Reads, ReadsAndWrites, ReadsOn, Serves, StaysOn, WritesFirst, next_records};
 
+use crate::ended::Ended;
+use crate::fault::SendFault;
+use crate::sender::Sender;
+use crate::turn_fault::TurnFault;
+use crate::turning::turn;
 use bytes::BytesMut;
 use chgarena::Arena;
 use publication::Selection;
-use sender::{Ended, SendFault, Sender, TurnFault, turn};
 use shared_log::{LogName, LogReader, ReadFault};
 use std::alloc::{AllocError, Global};
 use std::io;
@@ -124,7 +128,7 @@ impl<L: LogName> Walsender<L> {
         Ok(self.sender.feed(records.as_slice(), clock))
     }
 
-    /// Reads on, and writes all that is held, as `sender::turn` does.
+    /// Reads on, and writes all that is held, as `crate::turn` does.
     pub fn turn<W: Write>(
         &mut self,
         alloc: Global,

@@ -10,7 +10,7 @@ use Rattle.schedule.specs.declared.answer.Answer.TheVariants as answers
 use Rattle.schedule.specs.declared.fault.WorldFault.{WorldFault}
 use Rattle.world.specs.declared.action.Action.{Action}
 use Rattle.world.specs.declared.action.Action.TheVariants as actions
-use Rattle.sender.specs.declared.fault.SendFault.TheVariants as sends
+use Rattle.walsender.specs.declared.fault.SendFault.TheVariants as sends
 use Rattle.world.specs.declared.start.Start.{Start}
 use Rattle.world.specs.declared.machine.Machine.{Machine}
 use Rattle.world.specs.Start.{StartState}

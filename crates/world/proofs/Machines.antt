@@ -5,7 +5,7 @@ use Rattle.std.specs.List.{AllByRecursion}
 use Rattle.std.proofs.lemmas.Option.{slice_get-map, slice_get_read, slice_get_within}
 use Rattle.std.proofs.lemmas.List.{length-map, map-append, map-set}
 use Rattle.wal.specs.declared.record.Record.{Record}
-use Rattle.sender.specs.declared.fault.SendFault.TheVariants as sends
+use Rattle.walsender.specs.declared.fault.SendFault.TheVariants as sends
 use Rattle.schedule.specs.declared.answer.Answer.{Answer}
 use Rattle.schedule.specs.declared.answer.Answer.TheVariants as answers
 use Rattle.schedule.specs.declared.fault.WorldFault.{WorldFault}
@@ -19,8 +19,8 @@ use Rattle.world.specs.declared.start.Stage.TheVariants as stages
 use Rattle.world.specs.declared.machine.Machine.{Machine}
 use Rattle.world.specs.Start.{StartState, running_count}
 use Rattle.world.specs.State.{SubscriberState, WorldState}
-use Rattle.sessions.specs.SessionLines.{IsLine}
-use Rattle.sessions.specs.Sessions.{Grows}
+use Rattle.schedule.specs.SessionLines.{IsLine}
+use Rattle.schedule.specs.Sessions.{Grows}
 use Rattle.slots.specs.State.{SlotsState}
 use Rattle.world.specs.Acting.{Acts}
 use Rattle.world.specs.ConnectionLines.{slots_after, subscribers_after}

@@ -22,8 +22,8 @@ use Rattle.schedule.specs.declared.event.SessionStep.TheVariants as session_step
 use Rattle.schedule.specs.declared.event.ConnectionStep.{ConnectionStep}
 use Rattle.schedule.specs.declared.event.ConnectionStep.TheVariants as connection_steps
 use Rattle.schedule.specs.declared.event.Literal.{Literal}
-use Rattle.sessions.specs.Transactions.{NamedTx, xid_of}
-use Rattle.sessions.specs.SessionLines.{Ask, IsCalled, SessionState, after_step, asks, deleted_in, if_known, if_new, inserted_in, note_ask, oids_named, step_ask, truncated_in, updated_in}
+use Rattle.schedule.specs.Transactions.{NamedTx, xid_of}
+use Rattle.schedule.specs.SessionLines.{Ask, IsCalled, SessionState, after_step, asks, deleted_in, if_known, if_new, inserted_in, note_ask, oids_named, step_ask, truncated_in, updated_in}
 use Rattle.slots.specs.State.{SlotsState, slot_of}
 use Rattle.world.specs.Start.{StartState}
 use Rattle.configuration.specs.Setting.{Setting}
@@ -42,7 +42,7 @@ use Rattle.world.proofs.Feeding.{IsFed, fed_grown}
 use Rattle.pgoutput.specs.declared.published.Published.{Published}
 use Rattle.pgoutput.specs.Items.{bytes_of_items}
 use Rattle.publication.specs.Selection.{relation}
-use Rattle.sender.specs.Published.{published_transactions}
+use Rattle.walsender.specs.Published.{published_transactions}
 use Rattle.client.specs.Subscriber.{Subscriber}
 use Rattle.client.specs.Taking.{ApplierState}
 use Rattle.client.specs.Law.{GainedAll}

@@ -9,7 +9,7 @@ use Rattle.publication.specs.Publications.{PublicationSet}
 use Rattle.publication_config.specs.declared.fault.PubFault.TheVariants as pubs
 use Rattle.pgoutput.specs.declared.published.Published.{Published}
 use Rattle.pgoutput.proofs.Lists.{all_of_both}
-use Rattle.sender.specs.declared.fault.SendFault.TheVariants as sends
+use Rattle.walsender.specs.declared.fault.SendFault.TheVariants as sends
 use Rattle.schedule.specs.declared.start_options.StartOptions.{StartOptions}
 use Rattle.schedule.specs.declared.answer.Answer.{Answer}
 use Rattle.schedule.specs.declared.answer.Answer.TheVariants as answers

@@ -11,9 +11,9 @@ use Rattle.wal.specs.declared.record.Body.TheVariants.{Assign, Change as Changed
 use Rattle.wal.specs.Log.{IsSized, Transaction, note_as_transaction, committed_at, end_of, follows, kept_changes}
 use Rattle.publication.specs.Publications.{PublicationSet}
 use Rattle.pgoutput.specs.declared.published.Published.{Published}
-use Rattle.sender.specs.Published.{has_message, published_as, published_from}
-use Rattle.sender.proofs.Batches.{published_from-append}
-use Rattle.sender.proofs.Sections.{followed}
+use Rattle.walsender.specs.Published.{has_message, published_as, published_from}
+use Rattle.walsender.proofs.Batches.{published_from-append}
+use Rattle.walsender.proofs.Sections.{followed}
 
 -- ---- Transactions in order.
 

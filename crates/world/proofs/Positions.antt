@@ -6,7 +6,7 @@ use Rattle.std.proofs.lemmas.List.{append-nil, take-append-drop}
 use Rattle.wal.specs.declared.record.TheConstants.{FIRST_POSITION}
 use Rattle.wal.specs.declared.record.Record.{Record}
 use Rattle.wal.specs.Log.{IsWellFormedLog, IsSized, follows, end_of}
-use Rattle.sender.proofs.Sections.{all_front, all_back, followed, follows_parts, starts_below}
+use Rattle.walsender.proofs.Sections.{all_front, all_back, followed, follows_parts, starts_below}
 use Rattle.world.specs.Acting.{read_by}
 use Rattle.world.specs.Acting.{unread_records}
 

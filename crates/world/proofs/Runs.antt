@@ -10,8 +10,8 @@ use Rattle.wal.specs.Log.{IsWellFormedLog, end_of}
 use Rattle.publication.specs.Publications.{PublicationSet}
 use Rattle.publication.specs.Selection.{relation}
 use Rattle.pgoutput.specs.Stream.{IsStream}
-use Rattle.sender.specs.Published.{published_transactions}
-use Rattle.sender.specs.Sending.{SenderState}
+use Rattle.walsender.specs.Published.{published_transactions}
+use Rattle.walsender.specs.Sending.{SenderState}
 use Rattle.schedule.specs.declared.answer.Answer.{Answer}
 use Rattle.schedule.specs.declared.event.Event.{Event}
 use Rattle.schedule.specs.declared.fault.WorldFault.{WorldFault}

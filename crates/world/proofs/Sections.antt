@@ -7,14 +7,14 @@ use Rattle.wal.specs.declared.record.Record.{Record}
 use Rattle.wal.specs.Log.{IsWellFormedLog, end_of}
 use Rattle.pgoutput.specs.Words.{word_bytes}
 use Rattle.pgoutput.specs.Items.{keepalive_word}
-use Rattle.sender.specs.declared.fault.SendFault.{SendFault}
-use Rattle.sender.specs.declared.fault.SendFault.TheVariants as sends
-use Rattle.sender.specs.Published.{published_from, published_transactions}
-use Rattle.sender.specs.Sending.{SenderState, published_bytes, ReadAll, RanOut}
+use Rattle.walsender.specs.declared.fault.SendFault.{SendFault}
+use Rattle.walsender.specs.declared.fault.SendFault.TheVariants as sends
+use Rattle.walsender.specs.Published.{published_from, published_transactions}
+use Rattle.walsender.specs.Sending.{SenderState, published_bytes, ReadAll, RanOut}
 use Rattle.schedule.specs.declared.answer.Answer.{Answer}
 use Rattle.schedule.specs.declared.answer.Answer.TheVariants as answers
 use Rattle.walsender.specs.Serving.{IsServing, Reads, next_records}
-use Rattle.walsender.proofs.Sections.{section_front, section_of}
+use Rattle.walsender.proofs.ServedSections.{section_front, section_of}
 use Rattle.walsender.proofs.Skipping.{adds_whole, reads_behind}
 use Rattle.walsender.proofs.Serving.{grown, grown_streaming, no_gap, reading}
 use Rattle.world.specs.declared.action.Action.TheVariants as actions

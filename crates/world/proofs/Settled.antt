@@ -15,9 +15,9 @@ use Rattle.pgoutput.specs.declared.published.Published.{Published}
 use Rattle.pgoutput.specs.Items.{Block, Item, KeepaliveItem, transactions_of}
 use Rattle.pgoutput.specs.Stream.{AreSafeKeepalives}
 use Rattle.pgoutput.proofs.Lists.{all_of_both}
-use Rattle.sender.specs.Published.{published_from, published_transactions}
-use Rattle.sender.proofs.Batches.{published_from-append}
-use Rattle.sender.proofs.Sections.{all_back, all_front, follows_parts, starts_below}
+use Rattle.walsender.specs.Published.{published_from, published_transactions}
+use Rattle.walsender.proofs.Batches.{published_from-append}
+use Rattle.walsender.proofs.Sections.{all_back, all_front, follows_parts, starts_below}
 use Rattle.client.specs.Subscriber.{Subscriber}
 use Rattle.client.specs.Law.{Gained, gained_transactions, position_after}
 use Rattle.world.specs.Acting.{read_by}

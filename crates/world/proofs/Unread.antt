@@ -11,8 +11,8 @@ use Rattle.wal.specs.Restart.{restart, restart_place}
 use Rattle.shared_log.specs.declared.fault.ReadFault.{ReadFault}
 use Rattle.shared_log.specs.Readers.{seen_of}
 use Rattle.shared_log.proofs.Prefixes.{begins_itself, begins_longer}
-use Rattle.sender.specs.declared.fault.SendFault.{SendFault}
-use Rattle.sender.specs.Sending.{SenderState}
+use Rattle.walsender.specs.declared.fault.SendFault.{SendFault}
+use Rattle.walsender.specs.Sending.{SenderState}
 use Rattle.walsender.specs.declared.walsender.Walsender.{Walsender}
 use Rattle.walsender.specs.Serving.{BeginsAt, Reads, ReadsOn, Serves, next_records}
 

@@ -5,10 +5,10 @@ use Rattle.wal.specs.Log.{end_of}
 use Rattle.publication.specs.Publications.{PublicationSet}
 use Rattle.pgoutput.specs.Words.{word_bytes}
 use Rattle.pgoutput.specs.Items.{keepalive_word}
-use Rattle.sender.specs.declared.fault.SendFault.{SendFault}
-use Rattle.sender.specs.declared.fault.SendFault.TheVariants as sends
-use Rattle.sender.specs.Published.{published_from, published_transactions}
-use Rattle.sender.specs.Sending.{published_bytes}
+use Rattle.walsender.specs.declared.fault.SendFault.{SendFault}
+use Rattle.walsender.specs.declared.fault.SendFault.TheVariants as sends
+use Rattle.walsender.specs.Published.{published_from, published_transactions}
+use Rattle.walsender.specs.Sending.{published_bytes}
 use Rattle.schedule.specs.declared.answer.Answer.{Answer}
 use Rattle.schedule.specs.declared.answer.Answer.TheVariants as answers
 use Rattle.world.specs.declared.action.Action.{Action}

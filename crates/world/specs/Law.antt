@@ -8,7 +8,7 @@ use Rattle.wal.specs.declared.record.Record.{Record}
 use Rattle.wal.specs.Log.{end_of}
 use Rattle.publication.specs.Selection.{relation}
 use Rattle.pgoutput.specs.Stream.{IsStream}
-use Rattle.sender.specs.Published.{published_transactions}
+use Rattle.walsender.specs.Published.{published_transactions}
 use Rattle.world.specs.Start.{StartState}
 use Rattle.world.specs.Acting.{read_by}
 use Rattle.world.specs.State.{WorldState}

@@ -7,7 +7,7 @@ use Rattle.std.specs.Str.{bytes_eq}
 use Rattle.publication.specs.Selection.{relation}
 use Rattle.pgoutput.specs.declared.published.Published.{Published}
 use Rattle.pgoutput.specs.Items.{Item, bytes_of_items}
-use Rattle.sender.specs.Published.{published_transactions}
+use Rattle.walsender.specs.Published.{published_transactions}
 use Rattle.client.specs.Subscriber.{subscriber_at_rest}
 use Rattle.client.specs.Law.{GainedAll}
 use Rattle.txlog.specs.Publishing.{log_end}

@@ -4,7 +4,7 @@ use Rattle.std.specs.Prelude.{◌≡◌, ℕ, Bool, true, false, List, []}
 use Rattle.wal.specs.declared.record.Record.{Record}
 use Rattle.publication.specs.Publications.{PublicationSet}
 use Rattle.shared_log.specs.Readers.{seen_of}
-use Rattle.sender.specs.Sending.{SenderState}
+use Rattle.walsender.specs.Sending.{SenderState}
 use Rattle.walsender.specs.Serving.{IsStreaming, Serves}
 use Rattle.world.specs.declared.start.Start.{Start}
 use Rattle.world.specs.declared.start.Stage.{Stage}

@@ -3,7 +3,7 @@
 use Rattle.std.specs.Prelude.{ℕ, Bool, false, List, [], ◌∷◌, ◌++◌, drop, Option, Some, None, if◌then◌else◌}
 use Rattle.std.specs.Str.{bytes_eq}
 use Rattle.txlog.specs.Publishing.{PublisherState, new_publisher}
-use Rattle.sessions.specs.Transactions.{NamedTx}
+use Rattle.schedule.specs.Transactions.{NamedTx}
 use Rattle.publication.specs.Publications.{PublicationSet}
 use Rattle.slots.specs.State.{SlotsState, no_slots}
 use Rattle.copyboth.specs.declared.status.Status.{Status}

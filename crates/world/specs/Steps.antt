@@ -9,7 +9,7 @@ use Rattle.schedule.specs.declared.fault.WorldFault.{WorldFault}
 use Rattle.schedule.specs.declared.fault.WorldFault.TheVariants as worlds
 use Rattle.world.specs.declared.action.Action.TheVariants as actions
 use Rattle.world.specs.State.{WorldState, open_start, subscriber_of}
-use Rattle.sessions.specs.SessionLines.{Ask, SessionState, ask_of, IsCalled, line_takes_memory}
+use Rattle.schedule.specs.SessionLines.{Ask, SessionState, ask_of, IsCalled, line_takes_memory}
 use Rattle.world.specs.ConnectionLines.{ActsAt, IsStart, start_refusal}
 use Rattle.slots.specs.Words.{slot_named}
 use Rattle.replcmd.specs.Words.{is_slot_name}

@@ -21,9 +21,9 @@ pub use action::Action;
 pub use limits::MAX_SENDERS;
 pub use reading::resume;
 pub use schedule::{
-    Answer, BadEvent, ConnectionStep, Event, LineFault, Literal, Schedule, SessionStep, WorldFault,
+    Answer, BadEvent, ConnectionStep, Event, LineFault, Literal, Schedule, SessionStep, Sessions,
+    WorldFault,
 };
-pub use sessions::Sessions;
 pub use slots::{Slot, SlotFault};
 pub use start::Start;
 pub use subscriber::Subscriber;

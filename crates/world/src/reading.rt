@@ -8,11 +8,10 @@ ghost use Rattle.txlog.specs.Invariants.{IsPublisher};
 ghost use Rattle.wal.specs.Restart.{restart};
 ghost use Rattle.walsender.specs.Serving.{BeginsAt, Reads, Serves, next_records};
 
-use sender::SendFault;
 use shared_log::{LogName, LogReader, ReadFault};
 use std::alloc::Global;
 use txlog::Publisher;
-use walsender::Walsender;
+use walsender::{SendFault, Walsender};
 
 /// Puts the reader where a stream that starts at this position begins to read the log as it stands, and answers the position
 /// there. E1 changes nothing. It takes no memory.

@@ -15,12 +15,11 @@ use chgarena::Arena;
 use pqformat::Text;
 use publication::Selection;
 use schedule::{Answer, WorldFault};
-use sender::{Ended, SendFault};
 use shared_log::{LogName, LogReader, ReadFault};
 use std::alloc::Global;
 use std::mem;
 use txlog::Publisher;
-use walsender::Walsender;
+use walsender::{Ended, SendFault, Walsender};
 
 /// A start of a connection's sender. It is open until the connection is cut, and stays with what it produced.
 #[derive(Drop)]

@@ -4,11 +4,11 @@ use crate::items::{ITEM, item};
 use crate::sending::{feed, sender_of_p};
 use crate::without_memory::answered;
 use anyhow::Result;
-use sender::Sender;
 use shared_log::{LogName, LogReader, ReadFault};
 use std::alloc::Global;
 use std::sync::Wait;
 use txlog::{Publisher, Receipt, SessionFault};
+use walsender::Sender;
 
 /// How many bytes are sent of the transaction.
 const LENGTH: usize = 253;

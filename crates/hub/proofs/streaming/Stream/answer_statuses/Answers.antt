@@ -1,5 +1,5 @@
 use Rattle.std.proofs.Common.{◌+◌, ◌++◌, ℕ, ap, arith, refl, subst, ◌∙◌}
-use Rattle.sender.specs.Sending.{SenderState}
+use Rattle.walsender.specs.Sending.{SenderState}
 use Rattle.hub.specs.Streams.{keepalives}
 use Rattle.hub.specs.declared.streaming.TheConstants.{MOST_KEEPALIVES}
 use Rattle.hub.proofs.Streams.{Gave, gave_on, held_more, kept_on, nothing_kept, one_more, same_on, wrote_more}

@@ -2,7 +2,7 @@ use Rattle.std.proofs.Common.{ap}
 use Rattle.std.specs.Int.{w64}
 use Rattle.std.proofs.lemmas.Int.{to_z-of_z}
 use Rattle.shared_log.specs.Readers.{seen_of}
-use Rattle.walsender.proofs.Turns.{first, reads, turned}
+use Rattle.walsender.proofs.ServedTurns.{first, reads, turned}
 use Rattle.walsender.proofs.walsender.Walsender.turn.Goals as goal
 
 pub returns-clause-serves : goal.returns-clause-serves

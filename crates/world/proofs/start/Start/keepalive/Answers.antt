@@ -1,7 +1,7 @@
 use Rattle.std.proofs.Common.{◌≡◌, sym, subst}
 use Rattle.std.specs.Int.{w64}
 use Rattle.std.proofs.lemmas.Int.{to_z-of_z}
-use Rattle.sender.specs.Sending.{SenderState}
+use Rattle.walsender.specs.Sending.{SenderState}
 use Rattle.world.specs.declared.action.Action.TheVariants as actions
 use Rattle.world.specs.declared.start.Stage.{Stage}
 use Rattle.world.specs.Acting.{Acts, answer_of}

@@ -6,7 +6,7 @@ use Rattle.shared_log.specs.declared.fault.ReadFault.{ReadFault}
 use Rattle.shared_log.specs.Fronts.{settled_records}
 use Rattle.shared_log.specs.Readers.{HasSeen, seen_of}
 use Rattle.shared_log.proofs.Prefixes.{begins_longer}
-use Rattle.sender.specs.Sending.{SenderState}
+use Rattle.walsender.specs.Sending.{SenderState}
 use Rattle.walsender.specs.Serving.{IsServing}
 use Rattle.world.specs.declared.action.Action.TheVariants as actions
 use Rattle.world.specs.declared.start.Stage.{Stage}

@@ -1,8 +1,0 @@
-use Rattle.std.proofs.Common.{◌∙◌}
-use Rattle.sender.proofs.Lent.{holds_as}
-use Rattle.sender.proofs.sender.Sender.holds_bytes.Goals as goal
-
-pub returns : goal.returns
-returns c =
-    let i = c.self.inside in
-    rw (← c.self.view_is) (c.holds_bytes.ensures ∙ holds_as i.selection i.reorder i.outgoing c.self.invariant)

@@ -1,6 +1,0 @@
-use Rattle.std.proofs.Common.{◌≡◌, drop, map}
-use Rattle.sessions.specs.Sessions.{named_tx, place_from}
-use Rattle.sessions.proofs.session.place_of.Given as goal
-
-abbrev pub invariant-loop-place : goal.invariant-loop-place
-invariant-loop-place l = place_from l.place l.name (map named_tx (drop l.place l.sessions)) ≡ place_from 0 l.name (map named_tx l.sessions)

@@ -1,4 +1,0 @@
-pub mod Transactions
-pub mod Rows
-pub mod SessionLines
-pub mod Sessions

@@ -1,0 +1,68 @@
+//! Reading records one by one.
+
+ghost use Rattle.std.specs.Prelude.{◌≡◌, ℕ, List, false, Err, IfErr, OnErr, OnOk};
+ghost use Rattle.wal.specs.Records.{shared_records};
+ghost use Rattle.reorder.specs.Chunks.{LeavesNoRoom};
+ghost use Rattle.reorder.specs.Taking.{HasTaken, MayCome};
+ghost use Rattle.wal.specs.declared.record.Record.{Record as Logged};
+ghost use Rattle.walsender.specs.Sending.{HasChunks, IsOut, LacksRoom, ReadAll, RanOut, OutputUnchanged, ReadOne};
+
+use crate::fault::SendFault;
+use crate::sender::Sender;
+use reorder::ReorderFault;
+use std::sync::Arc;
+use wal::Record;
+
+impl Sender {
+    pub(crate) fn take_all(&mut self, records: &[Arc<Record>], clock: i64) -> Result<(), SendFault>
+        requires { self.old.failed ≡ false }
+        ensures ok { OnOk result (ReadAll clock self.old self.new (shared_records records.now)) }
+        ensures running { OnOk result (self.new.failed ≡ false) }
+        ensures out { OnErr result (RanOut clock self.old self.new (shared_records records.now)) }
+        ensures err { IfErr result IsOut }
+        ensures room { result ≡ Err SendFault.ArenaFull →
+            LacksRoom self.old self.new (shared_records records.now) }
+        ensures chunks { OnOk result
+            ((count : ℕ) → HasChunks self.old count → HasChunks self.new count) }
+    {
+        for record in records {
+            match self.take(record, clock) {
+                Ok(()) => {}
+                Err(fault) => {
+                    self.failed = true;
+                    return Err(fault);
+                }
+            }
+        }
+        Ok(())
+    }
+
+    fn take(&mut self, next: &Arc<Record>, clock: i64) -> Result<(), SendFault>
+        ensures ok { OnOk result (ReadOne clock self.old self.new next.now.value) }
+        ensures err { OnErr result (OutputUnchanged self.old self.new) }
+        ensures out { IfErr result IsOut }
+        ensures room { result ≡ Err SendFault.ArenaFull → (rs : List Logged) (count : ℕ) →
+            HasTaken self.old.reorder rs → MayCome rs next.now.value.body →
+            HasChunks self.old count → LeavesNoRoom count rs next.now.value }
+        ensures chunks { OnOk result
+            ((count : ℕ) → HasChunks self.old count → HasChunks self.new count) }
+        ensures failed { self.new.failed ≡ self.old.failed }
+    {
+        self.outgoing.give_way(&self.selection, &mut self.reorder)?;
+        match self.reorder.take(next) {
+            Err(ReorderFault::Full) => return Err(SendFault::ArenaFull),
+            Err(_) => return Err(SendFault::Memory),
+            Ok(step) => self.outgoing.add_record(
+                &self.selection,
+                self.start,
+                &mut self.reorder,
+                next,
+                step,
+                clock,
+                &mut self.room,
+            )?,
+        }
+        self.position = next.end;
+        Ok(())
+    }
+}

@@ -1,0 +1,143 @@
+//! Frames of what is held, made as they go out.
+
+ghost use Rattle.std.specs.Prelude.{◌≡◌, ◌+◌, ◌<◌, ◌≤◌, ◌++◌, ◌∷◌, [], List, MatchBool, drop, length, take};
+ghost use Rattle.walsender.specs.declared.waiting.Waiting.{Waiting};
+ghost use Rattle.walsender.specs.Outgoing.{HoldsSame, IsFilled, IsOutgoing, held_of};
+
+use crate::bounds::put_commit_of;
+use crate::making::{LEAST_ROOM, MAX_FRAME_LENGTH, next_frame};
+use crate::outgoing::Outgoing;
+use publication::Selection;
+use reorder::Reorder;
+
+impl Outgoing {
+    /// Makes frames where there are none left, and answers whether there are any then. It takes no memory.
+    pub(crate) fn fill(&mut self, selection: &Selection, reorder: &mut Reorder) -> bool
+        requires good { IsOutgoing selection.now reorder.old self.old }
+        ensures same { HoldsSame selection.now reorder.old reorder.new self.old self.new }
+        ensures front { self.new.front ≡ self.old.front }
+        ensures more { MatchBool result (self.new.from < self.new.to)
+            (held_of selection.now reorder.new self.new ≡ self.new.front.items) }
+    {
+        if self.from < self.to {
+            return true;
+        }
+        if self.made.is_empty() && self.waiting.is_empty() {
+            return false;
+        }
+        self.from = 0;
+        self.to = 0;
+        self.make(selection, reorder)
+    }
+
+    /// The same, but that it makes as many as there is room for.
+    pub(crate) fn fill_up(&mut self, selection: &Selection, reorder: &mut Reorder) -> bool
+        requires good { IsOutgoing selection.now reorder.old self.old }
+        ensures same { HoldsSame selection.now reorder.old reorder.new self.old self.new }
+        ensures front { self.new.front ≡ self.old.front }
+        ensures more { MatchBool result (self.new.from < self.new.to)
+            (held_of selection.now reorder.new self.new ≡ self.new.front.items) }
+    {
+        if !self.fill(selection, reorder) {
+            return false;
+        }
+        while self.to + LEAST_ROOM <= self.frames.len() && self.make(selection, reorder) {}
+        true
+    }
+
+    /// Makes frames behind those that are left, and answers whether there were any to make that surely had room.
+    fn make(&mut self, selection: &Selection, reorder: &mut Reorder) -> bool
+        requires good { IsOutgoing selection.now reorder.old self.old }
+        requires room { self.old.to + LEAST_ROOM ≤ length self.old.frames.items }
+        ensures same { HoldsSame selection.now reorder.old reorder.new self.old self.new }
+        ensures frames { IsFilled self.old self.new }
+        ensures more { MatchBool result (self.old.to < self.new.to)
+            ((self.new.to ≡ self.old.to)
+            × (self.old.to + MAX_FRAME_LENGTH ≤ length self.old.frames.items →
+            (self.new.made.items ≡ []) × (self.new.waiting.items ≡ []))) }
+    {
+        if !self.waiting.is_empty() {
+            return self.make_first(selection, reorder);
+        }
+        let count = self.made.len().min(self.frames.len() - self.to);
+        self.move_made(count);
+        count > 0
+    }
+
+    /// Makes a frame of the first transaction that waits, or moves bytes that are made before it. False: it may not have room.
+    fn make_first(&mut self, selection: &Selection, reorder: &mut Reorder) -> bool
+        requires good { IsOutgoing selection.now reorder.old self.old }
+        requires room { self.old.to + LEAST_ROOM ≤ length self.old.frames.items }
+        requires waits { 0 < length self.old.waiting.items }
+        ensures same { HoldsSame selection.now reorder.old reorder.new self.old self.new }
+        ensures frames { IsFilled self.old self.new }
+        ensures more { MatchBool result (self.old.to < self.new.to)
+            ((self.new.to ≡ self.old.to)
+            × (length self.old.frames.items < self.old.to + MAX_FRAME_LENGTH)) }
+    {
+        let room = self.frames.len() - self.to;
+        let Some(waiting) = self.waiting.front_mut() else {
+            return false;
+        };
+        if waiting.before > 0 {
+            let count = waiting.before.min(room);
+            waiting.before -= count;
+            self.placed -= count;
+            self.move_made(count);
+            return true;
+        }
+        let end = self.to + room.min(MAX_FRAME_LENGTH);
+        let count = next_frame(
+            selection,
+            reorder,
+            waiting,
+            &mut self.relations_sent,
+            &mut self.frames[self.to..end],
+        );
+        self.to += count;
+        if count > 0 {
+            return true;
+        }
+        if waiting.next < waiting.ready.count() {
+            return false;
+        }
+        self.finish_first(selection, reorder);
+        true
+    }
+
+    /// Makes the Commit of the first transaction that waits, of which no change is left. What was ready goes back, and it waits no more.
+    fn finish_first(&mut self, selection: &Selection, reorder: &mut Reorder)
+        requires good { IsOutgoing selection.now reorder.old self.old }
+        requires room { self.old.to + LEAST_ROOM ≤ length self.old.frames.items }
+        requires over { (w : Waiting) (ws : List Waiting) → self.old.waiting.items ≡ w ∷ ws →
+            (w.before ≡ 0) × (length w.ready.places ≤ w.next) }
+        requires waits { 0 < length self.old.waiting.items }
+        ensures same { HoldsSame selection.now reorder.old reorder.new self.old self.new }
+        ensures frames { IsFilled self.old self.new }
+        ensures more { self.old.to < self.new.to }
+    {
+        if let Some(waiting) = self.waiting.pop_front() {
+            let end = self.to + LEAST_ROOM;
+            self.to += put_commit_of(&waiting, &mut self.frames[self.to..end]);
+            reorder.finish(waiting.ready);
+        }
+    }
+
+    /// Moves so many of the bytes that are made behind the frames.
+    fn move_made(&mut self, count: usize)
+        requires enough { count ≤ length self.old.made.items }
+        requires room { self.old.to + count ≤ length self.old.frames.items }
+        ensures frames { take self.new.to self.new.frames.items
+            ≡ take self.old.to self.old.frames.items ++ take count self.old.made.items }
+        ensures size { length self.new.frames.items ≡ length self.old.frames.items }
+        ensures to { self.new.to ≡ self.old.to + count }
+        ensures made { self.new.made.items ≡ drop count self.old.made.items }
+        ensures rest { self.new
+            ≡ record self.old { frames = self.new.frames; made = self.new.made; to = self.new.to } }
+    {
+        let end = self.to + count;
+        self.frames[self.to..end].copy_from_slice(&self.made.as_slice()[..count]);
+        self.made.advance(count);
+        self.to = end;
+    }
+}
