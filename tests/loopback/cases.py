@@ -12,6 +12,7 @@ from asking import (
     questions_are_refused_where_they_may_not_be,
     texts_near_questions_are_refused,
 )
+from beginning import a_start_ahead_of_its_slot_is_refused, a_stream_tells_where_it_is, wrong_keepalive
 from closing import an_acknowledgement_holds_over_a_blocked_write, an_acknowledgement_holds_over_a_close
 from connection import STARTUP, Connection, Refused, keepalive, refusal_of_one_more, status
 from crowds import sixteen_clients_at_sixteen_slots, sixteen_streams_tell_the_same_of_eight_scripts
@@ -77,15 +78,20 @@ CHUNKS = 64
 
 def a_conversation_goes_frame_by_frame(pubd, subcat):
     """A session, a slot, a stream of one transaction, a status, and the end of stream and slot."""
-    wrong = []
+    wrong, early = [], None
     with Server(pubd, 1, ["begin A", "insert A public.item (1,'ab',7)", "commit A 5"], awaited=1) as server:
         client = Connection(server.port, says_nothing=True)
         for line in CONVERSATION.read_text().splitlines():
             mark, _, digits = line.partition(" ")
             if mark == ">":
                 client.socket.sendall(bytes.fromhex(digits))
+            elif mark == "<?":
+                early = digits
             elif mark == "<":
                 got = b"".join(client.frame()).hex()
+                if got == early:
+                    got = b"".join(client.frame()).hex()
+                early = None
                 wrong += [f"a frame is {got}, and not {digits}"] * (got != digits)
         client.close()
         return wrong + server.end()
@@ -175,6 +181,7 @@ def a_silent_client_is_asked_and_then_lost(pubd, subcat):
         for slot, client in (("silent", silent), ("polite", polite)):
             client.create(slot)
             client.start(slot)
+            wrong += wrong_keepalive(client, FIRST)
         begun = time.monotonic()
         while time.monotonic() - begun < 3:
             kind, body = polite.frame()
@@ -184,6 +191,7 @@ def a_silent_client_is_asked_and_then_lost(pubd, subcat):
         wrong += [f"a silent client gets {asked}, and no question"] * (asked[1][:1] + asked[1][17:] != b"k\1")
         wrong += ["a silent client is not lost"] * (silent.bytes.read(1) != b"")
         idle.start_when_free("silent")
+        wrong += wrong_keepalive(idle, FIRST)
         for client in (idle, silent, polite):
             client.close()
         return wrong + server.end(ended=["pubd: connection 2 closed: its client was silent for wal_sender_timeout"])
@@ -327,6 +335,8 @@ LONG = [
 ]
 ALL = [
     a_conversation_goes_frame_by_frame,
+    a_stream_tells_where_it_is,
+    a_start_ahead_of_its_slot_is_refused,
     nothing_is_lost_with_connections,
     a_descriptor_that_is_not_to_be_had_costs_one_connection,
     a_thread_that_is_not_to_be_had_costs_one_connection,

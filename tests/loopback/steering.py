@@ -75,9 +75,10 @@ def a_stream_is_held_and_let_go(pubd, subcat):
 
 
 def a_connection_is_cut_behind_a_byte(pubd, subcat):
-    """Behind each number of bytes as many come and no more, whatever frame they end in; the stream behind that has all again."""
+    """After each number of bytes as many come and no more, whatever frame they end in; the stream after that has all again."""
     with Publisher(pubd, CONFIGURATION) as publisher:
         client = stream_of(publisher, "s")
+        client.frame()
         insert(publisher, 1)
         whole = client.bytes.read(TRANSACTION)
         publisher.say("cut s")

@@ -26,8 +26,8 @@ pub struct Commons<L: LogName + SlotName> {
     pub publications: Publications,
     pub system: SystemName,
     pub settings: HubSettings,
-    /// What sessions call, one thread at a time. Each receipt of a commit goes to `tell`, and where the log ends behind a note to
-    /// `tell_note`.
+    /// What sessions call, one thread at a time. Each receipt of a commit goes to `tell`, and where the log ends after a note or an
+    /// abort to `tell_end`.
     pub publisher: Mutex<Publisher<L>>,
     pub slots: SlotTable<L>,
     pub(crate) pool: Mutex<Pool<L>>,
@@ -194,8 +194,9 @@ impl<L: LogName + SlotName> Commons<L> {
         self.wake(rt, end);
     }
 
-    /// A note leaves where the log ended right behind it, and no receipt: streams read on up to there, at least.
-    pub fn tell_note<R: Wait>(&self, rt: &R, end: u64) {
+    /// A note or an abort leaves where the log ended right after it, and no receipt: streams read on up to there, at least, so that
+    /// their clients can confirm it.
+    pub fn tell_end<R: Wait>(&self, rt: &R, end: u64) {
         let mut notice = self.notice.lock(rt);
         notice.note(end);
         let end = notice.end();

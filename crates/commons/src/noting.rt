@@ -17,7 +17,7 @@ impl<L: LogName + SlotName> Commons<L> {
         let end = publisher.end();
         MutexGuard::unlock(publisher);
         let start = noted?;
-        self.tell_note(rt, end);
+        self.tell_end(rt, end);
         Ok(start)
     }
 }

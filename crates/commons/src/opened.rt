@@ -128,6 +128,7 @@ fn settings_for(records: usize) -> HubSettings {
         max_connections: MAX_CONNECTIONS,
         chunks: CHUNKS,
         answers_postgresql: false,
+        allows_start_ahead: false,
         capacity: records,
     }
 }

@@ -16,6 +16,9 @@ pub struct HubSettings {
     /// Whether the questions of PostgreSQL's own clients are answered, which subscribers (CREATE SUBSCRIPTION) and pg_recvlogical
     /// ask before and beside commands: false, unless it is set. Then any text that is no command is a syntax error.
     pub answers_postgresql: bool,
+    /// Whether a stream may start ahead of all that its slot has confirmed and sent: false, unless it is set. A position of there comes
+    /// of another run, whose positions mean nothing here.
+    pub allows_start_ahead: bool,
     /// How many records the log has room for.
     pub(crate) capacity: usize,
 }

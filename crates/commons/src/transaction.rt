@@ -117,7 +117,7 @@ impl<'h, L: LogName + SlotName, R: Wait> Transaction<'h, L, R> {
             tx,
         } = self;
         if done.is_err() {
-            abort(rt, publisher, tx);
+            commons.tell_end(rt, abort(rt, publisher, tx));
             return done;
         }
         match commit(rt, publisher, tx, time) {
@@ -125,7 +125,8 @@ impl<'h, L: LogName + SlotName, R: Wait> Transaction<'h, L, R> {
                 commons.tell(rt, receipt);
                 done
             }
-            Err(fault) => {
+            Err((end, fault)) => {
+                commons.tell_end(rt, end);
                 drop(done);
                 Err(E::from(fault))
             }
@@ -133,29 +134,29 @@ impl<'h, L: LogName + SlotName, R: Wait> Transaction<'h, L, R> {
     }
 }
 
-/// Commits a transaction, or undoes it where that is refused.
+/// Commits a transaction, or undoes it where that is refused, and then answers where the log ends too.
 fn commit<L: LogName, R: Wait>(
     rt: &R,
     mut publisher: MutexGuard<'_, Publisher<L>>,
     tx: Tx,
     time: i64,
-) -> Result<Receipt<L>, SessionFault> {
+) -> Result<Receipt<L>, (u64, SessionFault)> {
     match publisher.commit(rt, tx, time) {
         Ok(receipt) => {
             MutexGuard::unlock(publisher);
             Ok(receipt)
         }
-        Err((tx, fault)) => {
-            abort(rt, publisher, tx);
-            Err(fault)
-        }
+        Err((tx, fault)) => Err((abort(rt, publisher, tx), fault)),
     }
 }
 
-/// Undoes a transaction. Where memory is refused for that, it is left as it is: nothing of it commits.
-fn abort<L: LogName, R: Wait>(rt: &R, mut publisher: MutexGuard<'_, Publisher<L>>, tx: Tx) {
+/// Undoes a transaction, and answers where the log ends after it. Where memory is refused for that, it is left as it is: nothing of it
+/// commits.
+fn abort<L: LogName, R: Wait>(rt: &R, mut publisher: MutexGuard<'_, Publisher<L>>, tx: Tx) -> u64 {
     if let Err((tx, _)) = publisher.abort(rt, tx) {
         publisher.leave(tx);
     }
+    let end = publisher.end();
     MutexGuard::unlock(publisher);
+    end
 }

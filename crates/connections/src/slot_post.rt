@@ -30,6 +30,8 @@ pub struct KnownSlot {
     pub latch: Option<usize>,
     /// Up to where its last stream has read the log.
     pub read: u64,
+    /// Up to where any of its streams has read the log, or its client has confirmed.
+    reached: u64,
     /// How many bytes its streams have sent, and how many transactions.
     pub sent: u64,
     pub transactions: u64,
@@ -52,6 +54,7 @@ impl KnownSlot {
             confirmed: 0,
             latch: None,
             read: 0,
+            reached: 0,
             sent: 0,
             transactions: 0,
             free_chunks: 0,
@@ -77,6 +80,7 @@ impl KnownSlot {
             confirmed: self.confirmed,
             latch: self.latch,
             read: self.read,
+            reached: self.reached,
             sent: self.sent,
             transactions: self.transactions,
             free_chunks: self.free_chunks,
@@ -104,6 +108,7 @@ impl SlotPost {
         known.is_open = true;
         known.name = name;
         known.confirmed = confirmed;
+        known.reached = confirmed;
         drop(known);
     }
 
@@ -133,6 +138,7 @@ impl SlotPost {
         known.free_chunks = free_chunks;
         let before = known.confirmed;
         known.confirmed = before.max(confirmed);
+        known.reached = known.reached.max(read).max(confirmed);
         drop(known);
         if before < confirmed {
             self.moved.notify_all();
@@ -154,6 +160,11 @@ impl SlotPost {
         drop(known);
         self.moved.notify_all();
         was_cut
+    }
+
+    /// Up to where any stream of the slot has read the log, or its client has confirmed: no client has got anything after that.
+    pub fn reached<R: Wait>(&self, rt: &R) -> u64 {
+        self.known.lock(rt).reached
     }
 
     /// How many of so many bytes may be sent.

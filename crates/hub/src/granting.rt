@@ -16,14 +16,41 @@ use std::alloc::AllocFailed;
 use std::sync::Wait;
 use walsender::begin;
 
-/// Begins a stream, or answers the first of the refusals in the order of `walsender::begin`.
+/// Begins a stream, or answers the first of the refusals in the order of `walsender::begin`; after them, that it would start ahead of
+/// its slot.
 pub(crate) fn begin_stream<L: LogName + SlotName, R: Wait>(
     start: &mut HubStart<'_, L, R>,
 ) -> Result<Box<Stream<L>>, DeskFault> {
     match begin(start) {
+        Ok(grant) if is_ahead(start, &grant) => {
+            take_back(start.rt, start.commons, grant);
+            Err(DeskFault::StartAhead)
+        }
         Ok(grant) => opened(start.rt, start.commons, grant),
         Err(fault) => Err(of_start(fault)),
     }
+}
+
+/// Whether a stream would start ahead of all that its slot has confirmed and sent. Its last stream has told how far it came, since that
+/// let the slot go.
+fn is_ahead<L: LogName + SlotName, R: Wait>(
+    start: &HubStart<'_, L, R>,
+    grant: &StreamGrant<L>,
+) -> bool {
+    if start.commons.settings.allows_start_ahead {
+        return false;
+    }
+    match start.commons.post_at(Some(grant.hold.place())) {
+        Some(post) => post.reached(start.rt) < start.position,
+        None => false,
+    }
+}
+
+/// What was granted goes back.
+#[inline(never)]
+fn take_back<L: LogName + SlotName, R: Wait>(rt: &R, commons: &Commons<L>, grant: StreamGrant<L>) {
+    let stream = Stream::open(commons.alloc, grant);
+    commons.give_back(rt, stream.end(&commons.slots));
 }
 
 /// The stream of a grant, or, where memory is refused, nothing: then what was granted goes back.

@@ -42,8 +42,8 @@ impl<L: LogName + SlotName> Hub<L> {
 
     // ---- what is written
 
-    /// What sessions call, one thread at a time. Each receipt of a commit goes to `tell`, and where the log ends behind a note to
-    /// `tell_note`.
+    /// What sessions call, one thread at a time. Each receipt of a commit goes to `tell`, and where the log ends after a note or an
+    /// abort to `tell_end`.
     pub fn publisher(&self) -> &Mutex<Publisher<L>> {
         &self.commons.publisher
     }
@@ -53,9 +53,10 @@ impl<L: LogName + SlotName> Hub<L> {
         self.commons.tell(rt, receipt);
     }
 
-    /// A note leaves where the log ended right behind it, and no receipt: streams read on up to there, at least.
-    pub fn tell_note<R: Wait>(&self, rt: &R, end: u64) {
-        self.commons.tell_note(rt, end);
+    /// A note or an abort leaves where the log ended right after it, and no receipt: streams read on up to there, at least, so that
+    /// their clients can confirm it.
+    pub fn tell_end<R: Wait>(&self, rt: &R, end: u64) {
+        self.commons.tell_end(rt, end);
     }
 
     /// Begins a transaction, once no other is in progress by this way.

@@ -38,11 +38,11 @@ pub(crate) struct Stream<L: LogName + SlotName> {
     walsender: Walsender<L>,
     hold: Hold<L>,
     latch: usize,
-    /// The greatest position that its client has flushed.
+    /// The greatest position that its client has flushed, by its statuses.
     flushed: u64,
     /// Up to where its slot was confirmed by it.
     confirmed: u64,
-    /// The position of the last keepalive, or its start.
+    /// The position of the last keepalive; 0 before the first.
     told: u64,
 }
 
@@ -69,9 +69,9 @@ impl<L: LogName + SlotName> Stream<L> {
             walsender: Walsender::begin(alloc, reader, selection, start, first, arena),
             hold,
             latch,
-            flushed: start,
+            flushed: 0,
             confirmed: 0,
-            told: start,
+            told: 0,
         }
     }
 

@@ -8,7 +8,7 @@ use command_line::{CommandLine, Word, WordForm, WordsFault};
 use std::alloc::{AllocError, Global};
 
 /// The words: those that may be left out, those that have to be there, and scripts.
-const WORDS: [Word<'static>; 11] = [
+const WORDS: [Word<'static>; 12] = [
     Word {
         name: "await-streams",
         form: WordForm::Option("N"),
@@ -43,6 +43,11 @@ const WORDS: [Word<'static>; 11] = [
         name: "answer-postgresql",
         form: WordForm::Flag,
         help: "Answer what CREATE SUBSCRIPTION and pg_recvlogical ask beside the commands of replication, and call the server 13.0 for them",
+    },
+    Word {
+        name: "allow-start-ahead",
+        form: WordForm::Flag,
+        help: "Let a stream start ahead of all that its slot has confirmed and sent, which is refused otherwise (55000): such a position is of another run",
     },
     Word {
         name: "CONFIG",
@@ -104,6 +109,7 @@ fn words_in<'a>(alloc: Global, matches: &ArgMatches<'a>) -> Result<Words<'a>, Al
         messages: matches.get_str("log-min-messages"),
         status: matches.get_str("status"),
         answers_postgresql: matches.get_flag("answer-postgresql"),
+        allows_start_ahead: matches.get_flag("allow-start-ahead"),
         scripts: scripts_in(alloc, matches)?,
     })
 }

@@ -176,6 +176,7 @@ fn limit(settings: &mut HubSettings, numbers: &Numbers) {
         .unwrap_or(settings.authentication_timeout);
     settings.max_connections = numbers.max_connections.unwrap_or(settings.max_connections);
     settings.answers_postgresql = numbers.answers_postgresql;
+    settings.allows_start_ahead = numbers.allows_start_ahead;
 }
 
 /// What is served, and what runs beside it.

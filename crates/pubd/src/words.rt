@@ -26,12 +26,13 @@ pub struct Words<'a> {
     pub(crate) messages: Option<&'a str>,
     pub(crate) status: Option<&'a str>,
     pub(crate) answers_postgresql: bool,
+    pub(crate) allows_start_ahead: bool,
     pub scripts: Vec<&'a str>,
 }
 
 /// Where it listens, for connections and for who asks what runs, how many connections it serves, how many streams the scripts await, how much it tells, its limits where
 /// they are told: for how long a stream's client may be silent, how long a startup may take, and how many connections are served
-/// at once; and whether PostgreSQL's own clients are answered.
+/// at once; whether PostgreSQL's own clients are answered, and whether a stream may start ahead of its slot.
 #[derive(Clone, Copy)]
 pub struct Numbers {
     pub address: SocketAddr,
@@ -43,6 +44,7 @@ pub struct Numbers {
     pub authentication_timeout: Option<Duration>,
     pub max_connections: Option<u32>,
     pub answers_postgresql: bool,
+    pub allows_start_ahead: bool,
 }
 
 impl<'a> Words<'a> {
@@ -63,6 +65,7 @@ impl<'a> Words<'a> {
             authentication_timeout: self.authentication_timeout()?,
             max_connections: self.max_connections()?,
             answers_postgresql: self.answers_postgresql,
+            allows_start_ahead: self.allows_start_ahead,
         })
     }
 

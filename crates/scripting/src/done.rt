@@ -3,7 +3,7 @@
 use crate::outcome::Done;
 use crate::step::{Steering, Step};
 use hub::{Hub, SteerFault};
-use schedule::{Answer, Event, Sessions};
+use schedule::{Answer, Event, SessionStep, Sessions};
 use shared_log::LogName;
 use slots::SlotName;
 use std::alloc::AllocError;
@@ -58,7 +58,7 @@ fn do_event<L: LogName + SlotName, R: Wait>(
     MutexGuard::unlock(publisher);
     match done {
         Ok((answer, Some(receipt))) => Ok(tell_commit(rt, hub, answer, receipt)),
-        Ok((answer, None)) => Ok(tell_note(rt, hub, event, answer, log_end)),
+        Ok((answer, None)) => Ok(tell_end(rt, hub, event, answer, log_end)),
         Err(fault) => Done::of_fault(fault),
     }
 }
@@ -78,8 +78,8 @@ fn tell_commit<L: LogName + SlotName, R: Wait>(
     }
 }
 
-/// A note that was done leaves where the log ends; other lines leave nothing.
-fn tell_note<L: LogName + SlotName, R: Wait>(
+/// A note or an abort that was done leaves where the log ends; other lines leave nothing.
+fn tell_end<L: LogName + SlotName, R: Wait>(
     rt: &R,
     hub: &Hub<L>,
     event: &Event,
@@ -89,8 +89,11 @@ fn tell_note<L: LogName + SlotName, R: Wait>(
     if let Some(code) = answer.code() {
         return Done::Refused(code);
     }
-    if matches!(event, Event::Note(_, _)) {
-        hub.tell_note(rt, log_end);
+    if matches!(
+        event,
+        Event::Note(_, _) | Event::Session(_, SessionStep::Abort)
+    ) {
+        hub.tell_end(rt, log_end);
     }
     Done::Line
 }

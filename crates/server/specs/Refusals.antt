@@ -31,6 +31,7 @@ desk_code desks.NoSlotPlace = codes "53400"
 desk_code desks.UnknownPublication = codes "42704"
 desk_code desks.ListConflict = codes "0A000"
 desk_code desks.NoReader = codes "53400"
+desk_code desks.StartAhead = codes "55000"
 desk_code desks.Memory = codes "53200"
 
 abbrev pub desk_text : DeskFault → List ℕ
@@ -41,6 +42,7 @@ desk_text desks.NoSlotPlace = codes "no slot place is left"
 desk_text desks.UnknownPublication = codes "publication does not exist"
 desk_text desks.ListConflict = codes "different column lists"
 desk_text desks.NoReader = codes "too many senders"
+desk_text desks.StartAhead = codes "start is ahead of what the slot has sent"
 desk_text desks.Memory = codes "out of memory"
 
 abbrev pub refusal_code : Refusal → List ℕ

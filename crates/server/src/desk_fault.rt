@@ -13,6 +13,8 @@ pub enum DeskFault {
     UnknownPublication,
     ListConflict,
     NoReader,
+    /// A stream would start ahead of all that its slot has confirmed and sent.
+    StartAhead,
     Memory,
 }
 
@@ -26,6 +28,7 @@ impl fmt::Display for DeskFault {
             DeskFault::UnknownPublication => "P1: the publication does not exist",
             DeskFault::ListConflict => "P2: different column lists",
             DeskFault::NoReader => "L6: no reader is free",
+            DeskFault::StartAhead => "L7: the start is ahead of all that the slot has sent",
             DeskFault::Memory => "out of memory",
         })
     }

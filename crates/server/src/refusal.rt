@@ -50,6 +50,10 @@ impl Refusal {
             }
             Refusal::Asked(DeskFault::ListConflict) => ("0A000", "different column lists"),
             Refusal::Asked(DeskFault::NoReader) => ("53400", "too many senders"),
+            Refusal::Asked(DeskFault::StartAhead) => (
+                "55000",
+                "start is ahead of what the slot has sent",
+            ),
             Refusal::Asked(DeskFault::Memory) => ("53200", "out of memory"),
         }
     }
