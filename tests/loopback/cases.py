@@ -41,6 +41,7 @@ from limits import (
     as_many_are_served_as_may_be,
     only_what_is_asked_for_is_told,
 )
+from large import a_transaction_that_is_too_large_is_passed_once_it_is_undone
 from link import Link
 from resuming import (
     a_refusal_for_good_ends_it,
@@ -299,8 +300,8 @@ def a_transaction_that_is_too_large_ends_its_stream(pubd, subcat):
             sent, code = len(list(client.messages(1))), client.refusal()
             client.close()
             wrong += [f"{attempt}: {sent} messages are sent, and then it ends by {code}"] * ((sent, code) != (rows + 3, "53400"))
-        full = "closed: transactions in progress fill the chunks of its stream"
-        return wrong + server.end(ended=[f"pubd: connection {number} {full}" for number in (1, 2)])
+        full = f"closed: transactions in progress fill the chunks of its stream, and take {CHUNKS + 1}: set chunks in [server]"
+        return wrong + server.end(ended=[f"pubd: connection {number} {full}" for number in (1, 2)], waited=True)
 
 
 def two_followers_print_what_a_script_commits(pubd, subcat):
@@ -346,6 +347,7 @@ ALL = [
     a_broken_connection_leaves_the_others,
     a_slow_reader_holds_up_nobody,
     a_transaction_that_is_too_large_ends_its_stream,
+    a_transaction_that_is_too_large_is_passed_once_it_is_undone,
     two_followers_print_what_a_script_commits,
     sixteen_streams_tell_the_same_of_eight_scripts,
     sixteen_clients_at_sixteen_slots,

@@ -115,13 +115,13 @@ class Server:
             time.sleep(0.01)
         return False
 
-    def end(self, refused=(), ended=None):
+    def end(self, refused=(), ended=None, waited=False):
         """Waits until it ends, and answers what is wrong with that; these lines of its script are due to be refused, and these of its
-        connections are due, in any order, if it is told which."""
+        connections are due, in any order, if it is told which. Where one has waited for a slot, lines that refused it are passed over."""
         status = self.process.wait()
         lines = self.process.stderr.read().splitlines()
         said = [line for line in lines if not line.startswith(OF_CONNECTIONS)]
-        told = sorted(line for line in lines if line.startswith(OF_CONNECTIONS))
+        told = sorted(line for line in lines if line.startswith(OF_CONNECTIONS) and not (waited and ": L2: " in line))
         due = told if ended is None else sorted(ended)
         wrong = [f"pubd ended with status {status}"] * bool(status)
         wrong += [f"pubd said {said}, and not {list(refused)}"] * (said != list(refused))

@@ -77,6 +77,14 @@ impl<L: LogName + SlotName> Commons<L> {
         }
     }
 
+    /// Whether a stream of the slot at this place found its chunks full.
+    pub fn was_full<R: Wait>(&self, rt: &R, place: usize) -> bool {
+        match self.post_at(Some(place)) {
+            Some(post) => post.was_full(rt),
+            None => false,
+        }
+    }
+
     pub fn place_of<R: Wait>(&self, rt: &R, slot: &str) -> Option<usize>
         ensures { IfSome result (λ place. place < 16) }
     {

@@ -35,6 +35,8 @@ pub enum ConnectionEnd {
     Memory,
     #[error("closed: transactions in progress fill the chunks of its stream")]
     FullArena,
+    #[error("closed: transactions in progress fill the chunks of its stream, and take {0}: set chunks in [server]")]
+    TooFewChunks(u32),
     #[error("closed: the log lets no reader in")]
     NoEntry,
     #[error("cut on purpose")]
@@ -50,6 +52,7 @@ impl ConnectionEnd {
             self,
             ConnectionEnd::Memory
                 | ConnectionEnd::FullArena
+                | ConnectionEnd::TooFewChunks(_)
                 | ConnectionEnd::NoEntry
                 | ConnectionEnd::Cut
         )

@@ -44,6 +44,8 @@ pub struct KnownSlot {
     pub reins: Reins,
     /// The connection of its stream was cut on purpose.
     was_cut: bool,
+    /// Transactions in progress filled the chunks of one of its streams.
+    was_full: bool,
 }
 
 impl KnownSlot {
@@ -62,6 +64,7 @@ impl KnownSlot {
             heard: None,
             reins: Reins::loose(),
             was_cut: false,
+            was_full: false,
         }
     }
 
@@ -88,6 +91,7 @@ impl KnownSlot {
             heard: self.heard,
             reins: self.reins,
             was_cut: self.was_cut,
+            was_full: self.was_full,
         }))
     }
 }
@@ -109,6 +113,7 @@ impl SlotPost {
         known.name = name;
         known.confirmed = confirmed;
         known.reached = confirmed;
+        known.was_full = false;
         drop(known);
     }
 
@@ -160,6 +165,18 @@ impl SlotPost {
         drop(known);
         self.moved.notify_all();
         was_cut
+    }
+
+    /// The chunks of the stream are full.
+    pub fn fill<R: Wait>(&self, rt: &R) {
+        let mut known = self.known.lock(rt);
+        known.was_full = true;
+        drop(known);
+    }
+
+    /// Whether the chunks of one of the slot's streams were full.
+    pub fn was_full<R: Wait>(&self, rt: &R) -> bool {
+        self.known.lock(rt).was_full
     }
 
     /// Up to where any stream of the slot has read the log, or its client has confirmed: no client has got anything after that.

@@ -9,6 +9,7 @@ ghost use Rattle.slots.specs.Rule.{slot_step, with_step};
 ghost use Rattle.slots.specs.Standings.{held_by};
 ghost use Rattle.slots.specs.declared.step.SlotKind.TheVariants.{Claim, Read};
 
+use crate::demand::ChunksNeeded;
 use chgarena::Arena;
 use commons::Pair;
 use connections::Hold;
@@ -24,7 +25,8 @@ use walsender::ClaimFault;
 const LIMIT: usize = usize::MAX;
 
 /// What a stream is made of beside its slot and its reader: what these names select, told as the options ask, and an arena of so
-/// many chunks.
+/// many chunks. Where a stream of the slot found them full, the arena has as many as the log takes, if without what is rolled back
+/// so many would do: so what was rolled back ends no stream for good.
 #[derive(Drop)]
 pub(crate) struct Means<'a> {
     pub alloc: Global,
@@ -32,17 +34,29 @@ pub(crate) struct Means<'a> {
     pub names: &'a [Text],
     pub options: &'a StreamOptions,
     pub chunks: u32,
+    pub was_full: bool,
 }
 
 impl<'a> Means<'a> {
-    /// Only memory refuses it, once the publications are judged.
-    fn make(&self) -> Result<(Selection, Arena), PubFault>
+    /// How many chunks the arena has, of a stream that starts there. The reader is left anywhere.
+    fn chunks_from<L: LogName>(&self, reader: &mut LogReader<L>, start: u64) -> u32 {
+        if !self.was_full {
+            return self.chunks;
+        }
+        match ChunksNeeded::of(self.alloc, reader, start) {
+            Some(needed) if needed.kept <= self.chunks => needed.all.saturating_add(self.chunks),
+            _ => self.chunks,
+        }
+    }
+
+    /// With an arena of so many chunks. Only memory refuses it, once the publications are judged.
+    fn make(&self, chunks: u32) -> Result<(Selection, Arena), PubFault>
         ensures { IfOk result
             (λ made. made.0
             ≡ asked_for self.now.publications.now self.now.names.now self.now.options.now) }
     {
         let selection = self.publications.select(self.names)?;
-        match Arena::new(self.alloc, self.chunks as usize) {
+        match Arena::new(self.alloc, chunks as usize) {
             Ok(arena) => Ok((selection.with_messages(self.options.messages), arena)),
             Err(_) => {
                 drop(selection);
@@ -75,10 +89,11 @@ impl<'a> Means<'a> {
         ensures first { IfOk result
             (λ b. b.first ≡ restart b.start (take LIMIT (seen_of reader.new))) }
     {
-        let Ok((selection, arena)) = self.make() else {
+        let start = position.max(hold.confirmed(slots));
+        let chunks = self.chunks_from(reader, start);
+        let Ok((selection, arena)) = self.make(chunks) else {
             return Err(ClaimFault::Memory);
         };
-        let start = position.max(hold.confirmed(slots));
         match reader.resume(start, LIMIT) {
             Ok(first) => Ok(Beginning {
                 selection,

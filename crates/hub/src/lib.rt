@@ -2,6 +2,7 @@
 //! docs/SERVING.md.
 #![tactic(auto)]
 
+mod demand;
 mod desk;
 mod grant;
 mod granting;

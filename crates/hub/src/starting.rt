@@ -63,6 +63,7 @@ impl<'h, L: LogName + SlotName, R: Wait> StartDesk for HubStart<'h, L, R> {
             names: self.options.publications.as_slice(),
             options: self.options,
             chunks: commons.settings.chunks,
+            was_full: commons.was_full(self.rt, slot.place),
         };
         match StreamGrant::claim(&commons.slots, pair, slot.place, &means, self.position) {
             Ok(grant) => Ok(grant),

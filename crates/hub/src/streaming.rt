@@ -15,6 +15,7 @@ ghost use Rattle.hub.specs.declared.streaming.TheConstants.{CLOCK};
 ghost use Rattle.hub.specs.Streams.{HasLearnt, StreamsOn, keepalives};
 ghost use Rattle.hub.specs.Turns.{Confirms};
 
+use crate::demand::ChunksNeeded;
 use crate::grant::StreamGrant;
 use commons::{CommitNotice, Pair};
 use connections::{Hold, Work};
@@ -38,6 +39,7 @@ pub(crate) struct Stream<L: LogName + SlotName> {
     walsender: Walsender<L>,
     hold: Hold<L>,
     latch: usize,
+    start: u64,
     /// The greatest position that its client has flushed, by its statuses.
     flushed: u64,
     /// Up to where its slot was confirmed by it.
@@ -69,6 +71,7 @@ impl<L: LogName + SlotName> Stream<L> {
             walsender: Walsender::begin(alloc, reader, selection, start, first, arena),
             hold,
             latch,
+            start,
             flushed: 0,
             confirmed: 0,
             told: 0,
@@ -253,6 +256,12 @@ impl<L: LogName + SlotName> Stream<L> {
         self.walsender.write_held(to)
     }
 
+    /// How many chunks the changes take that it reads of the log, where it is over. Its reader is left anywhere.
+    pub fn chunks_needed(&mut self) -> Option<u32> {
+        let needed = ChunksNeeded::of(self.alloc, &mut self.walsender.reader, self.start)?;
+        Some(needed.all)
+    }
+
     /// Makes the slot free, and gives reader and seat back.
     pub fn end(self, slots: &SlotTable<L>) -> Pair<L>
         ensures reader { result.reader ≡ self.walsender.reader }
@@ -265,6 +274,7 @@ impl<L: LogName + SlotName> Stream<L> {
             walsender,
             hold,
             latch,
+            start: _,
             flushed: _,
             confirmed: _,
             told: _,

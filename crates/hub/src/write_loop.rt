@@ -122,7 +122,14 @@ fn write_begun<L: LogName + SlotName, R: Wait + Clock>(
     let mut tap = Tap { rt, post, socket };
     let ended = write_stream(rt, &mut desk, &commons.slots, stream, work, &mut tap);
     report(rt, post, stream);
-    ended
+    if ended != Err(ConnectionEnd::FullArena) {
+        return ended;
+    }
+    post.fill(rt);
+    Err(match stream.chunks_needed() {
+        Some(chunks) => ConnectionEnd::TooFewChunks(chunks),
+        None => ConnectionEnd::FullArena,
+    })
 }
 
 /// Nothing is written any more, and nothing more comes.

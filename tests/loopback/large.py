@@ -1,0 +1,58 @@
+"""Transactions that are larger than a stream's chunks. Each case answers what is wrong, a line each."""
+import pathlib
+import sys
+
+from connection import Connection, position
+from server import CONFIGURATION
+
+sys.path.insert(0, str(pathlib.Path(__file__).resolve().parent.parent.parent / "examples" / "driven"))
+from driven import Publisher
+
+# More rows than the chunks of a stream have room for, each of which holds two.
+ROWS = 140
+LONG = "n" * 7900
+
+
+def fill(publisher, name):
+    for key in range(ROWS):
+        publisher.say(f"insert {name} public.item ({key},'{LONG}',7)")
+
+
+def a_transaction_that_is_too_large_is_passed_once_it_is_undone(pubd, subcat):
+    """Aborted, or rolled back to a savepoint: its stream ends while it is in progress, and so does the next; then it is passed."""
+    wrong = []
+    for undo, left in ((["abort B"], 0), (["rollback B 1", "insert B public.item (1000,'left',7)", "commit B 5"], 1)):
+        with Publisher(pubd, CONFIGURATION) as publisher:
+            client = Connection(publisher.port)
+            client.create("s")
+            client.start("s")
+            # Another transaction that began before it has the next stream read it from its beginning on.
+            publisher.say("begin A")
+            publisher.say("insert A public.item (2000,'a',7)")
+            publisher.say("begin B")
+            publisher.say("savepoint B")
+            fill(publisher, "B")
+            publisher.commit("insert public.item (3000,'b',7)", time=6)
+            for attempt in ("a stream", "the next one"):
+                code = code_of_end(client)
+                wrong += [f"{attempt} ends by {code} while it is in progress"] * (code != "53400")
+                client.close()
+                client = Connection(publisher.port)
+                if attempt == "a stream":
+                    client.start_when_free("s")
+            for line in undo:
+                publisher.say(line)
+            last = position(publisher.say("commit A 7"))
+            client.start_when_free("s")
+            ends = client.commits(2 + left)
+            wrong += [f"{undo[0]}: transactions end at {ends}, the last one not at {last}"] * (ends[-1] != last)
+            client.close()
+    return wrong
+
+
+def code_of_end(client):
+    """The code of the ErrorResponse that ends a stream, whatever comes before it."""
+    while True:
+        kind, body = client.frame()
+        if kind == b"E":
+            return next(field[1:].decode() for field in body.split(b"\0") if field[:1] == b"C")
