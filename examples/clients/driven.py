@@ -9,8 +9,8 @@ SECONDS = "300"
 class Driven:
     """It serves any number of connections, and answers PostgreSQL's own clients."""
 
-    def __init__(self, pubd):
-        words = ["timeout", SECONDS, pubd, "--answer-postgresql", HERE / "server.toml", "127.0.0.1:0", "forever", "-"]
+    def __init__(self, pubd, port=0, configuration=HERE / "server.toml"):
+        words = ["timeout", SECONDS, pubd, "--answer-postgresql", configuration, f"127.0.0.1:{port}", "forever", "-"]
         self.process = subprocess.Popen(words, stdin=subprocess.PIPE, stdout=subprocess.PIPE, stderr=subprocess.PIPE, text=True)
         self.port = int(self.process.stdout.readline().rpartition(":")[2])
 

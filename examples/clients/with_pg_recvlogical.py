@@ -68,6 +68,9 @@ def followed(server, folder):
         due = due_of(f"{at - 32:016x}", f"{at:016x}", number, key)
         wrong += [f"got {got.hex()}, and not {due.hex()}"] * (got != due)
         wrong += ["what came isn't acknowledged"] * (not confirmed)
+    # Nothing comes any more, and it ends all the same, since it is told where the stream is.
+    last = ["--start", "-o", "proto_version=1", "-o", "publication_names=p", "-f", folder / "rest", "--endpos", end]
+    wrong += follower.run(*last)
     time.sleep(0.5)
     wrong += follower.run("--drop-slot")
     return wrong + ["a slot is dropped twice"] * (not follower.run("--drop-slot"))
