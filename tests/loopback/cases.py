@@ -59,6 +59,13 @@ from steering import (
     a_server_ends_in_order,
     a_stream_is_held_and_let_go,
 )
+from systems import (
+    a_follower_that_is_stopped_goes_on,
+    a_start_that_lies_ahead_ends_it,
+    an_output_that_is_taken_away_ends_it,
+    another_system_is_refused_by_an_output,
+    another_system_is_refused_within_a_run,
+)
 from telling import messages_go_where_they_are_asked_for
 
 HERE = pathlib.Path(__file__).resolve().parent
@@ -376,4 +383,9 @@ ALL = [
     questions_are_refused_where_they_may_not_be,
     texts_near_questions_are_refused,
     a_slot_is_dropped_once_its_stream_has_ended,
+    another_system_is_refused_by_an_output,
+    another_system_is_refused_within_a_run,
+    a_start_that_lies_ahead_ends_it,
+    an_output_that_is_taken_away_ends_it,
+    a_follower_that_is_stopped_goes_on,
 ]
