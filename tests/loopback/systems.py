@@ -7,7 +7,7 @@ import subprocess
 import tempfile
 import time
 
-from connection import framed, status
+from connection import Connection, framed, status
 from followers import asked_of, server_frames
 from server import CONFIGURATION, FIRST, Server, inserts, printed_of_inserts
 
@@ -78,6 +78,22 @@ def another_system_is_refused_within_a_run(pubd, subcat):
     wrong = ["it prints something else"] * (printed + more != printed_of_inserts(2))
     wrong += [f"it ends with {follower.returncode}"] * (follower.returncode != 1)
     return wrong + [f"it says {told}"] * (told != ["subcat: K7: the server is system 43, and what was printed before is of system 42"])
+
+
+def a_system_is_chosen_at_each_start(pubd, subcat):
+    """Where it is `random`: a number of 63 bits, and never the same."""
+    with tempfile.TemporaryDirectory() as folder:
+        said = []
+        for _ in range(3):
+            with Server(pubd, 1, configuration=another_system(folder, "random")) as server:
+                client = Connection(server.port)
+                frames = client.ask("IDENTIFY_SYSTEM")
+                row = next(body for kind, body in frames if kind == b"D")
+                said.append(row[6 : 6 + int.from_bytes(row[2:6], "big")].decode())
+                client.close()
+                wrong = server.end()
+    wrong += [f"the systems are {said}"] * (len(set(said)) < 3)
+    return wrong + [f"a system is {each}" for each in said if not each.isdigit() or int(each) >= 2**63]
 
 
 def a_start_that_lies_ahead_ends_it(pubd, subcat):
