@@ -98,24 +98,43 @@ def questions_are_answered_where_they_may_be(pubd, subcat):
         for text, due in ANSWERED:
             got = said_to(client, text)
             wrong += [f"{text!r} is answered by {got}, and not by {due}"] * (got != due)
-        wrong += ["an initial copy isn't refused"] * (code_for(client, COPY) != UNSUPPORTED)
+        for _ in range(2):
+            wrong += wrong_texts(client, [(COPY, UNSUPPORTED, "initial copies are not served: use WITH (copy_data = false)")])
+        copy_slot = "pg_16394_sync_16386_7000000000000000001"
+        wrong += wrong_texts(client, [(f"DROP_REPLICATION_SLOT {copy_slot}", "42704", f'replication slot "{copy_slot}" does not exist')])
         wrong += ["a slot isn't dropped"] * (code_for(client, "DROP_REPLICATION_SLOT s") != "42704")
         client.create("s")
         got = said_to(client, BARE_DROP)
         wrong += [f"{BARE_DROP!r} is answered by {got}"] * (got != completed("DROP_REPLICATION_SLOT"))
         client.close()
-        return wrong + server.end()
+        told = ["initial copies are not served: use WITH (copy_data = false)", "DROP_REPLICATION_SLOT of slot s: L1: the slot does not exist"]
+        return wrong + server.end(ended=[f"pubd: connection 1: {each}" for each in told])
 
 
 def questions_are_refused_where_they_may_not_be(pubd, subcat):
-    """As any text that is no command."""
-    with Server(pubd, 1) as server:
+    """By the code of any text that is no command; the answer, and what is told once, name the word by which they are answered."""
+    with Server(pubd, 1, more=["--log-min-messages", "info"]) as server:
         client = Connection(server.port)
         client.create("s")
         due = [(text, SYNTAX) for text, _ in ANSWERED[:-1]] + [(COPY, SYNTAX), (DROP, UNSUPPORTED), (BARE_DROP, UNSUPPORTED)]
-        wrong = refused_otherwise(client, due)
+        wrong = wrong_texts(client, [(text, code, "not answered without --answer-postgresql") for text, code in due])
+        wrong += wrong_texts(client, [("SELECT 1", SYNTAX, "syntax error")])
         client.close()
-        return wrong + server.end()
+        path = PATH.replace("'", "\\'")
+        told = [f": {path}: C1: syntax error: --answer-postgresql answers it", ": SELECT 1: C1: syntax error", " closed by its client"]
+        return wrong + server.end(ended=[f"pubd: connection 1{each}" for each in told])
+
+
+def wrong_texts(client, due):
+    """What is wrong where these have to be refused by this code and this text."""
+    wrong = []
+    for text, code, words in due:
+        asked = text.encode() + b"\0"
+        client.socket.sendall(frame(b"Q", asked))
+        got = dict((field[:1], field[1:].decode()) for field in client.frame()[1].split(b"\0") if field)
+        wrong += [f"{text!r} is refused by {got}"] * ((got[b"C"], got[b"M"]) != (code, words))
+        wrong += ["no ReadyForQuery comes"] * (client.frame() != (b"Z", b"I"))
+    return wrong
 
 
 def texts_near_questions_are_refused(pubd, subcat):

@@ -35,6 +35,7 @@ from json_lines import (
 from limits import (
     a_place_is_never_used_again,
     a_refusal_is_told_with_what_was_asked,
+    a_refusal_names_its_slot,
     a_startup_has_its_time,
     a_word_that_is_none_is_told,
     an_end_is_told_with_its_cause,
@@ -60,6 +61,14 @@ from steering import (
     a_script_steers_too,
     a_server_ends_in_order,
     a_stream_is_held_and_let_go,
+)
+from systems import (
+    a_follower_that_is_stopped_goes_on,
+    a_start_that_lies_ahead_ends_it,
+    a_system_is_chosen_at_each_start,
+    an_output_that_is_taken_away_ends_it,
+    another_system_is_refused_by_an_output,
+    another_system_is_refused_within_a_run,
 )
 from telling import messages_go_where_they_are_asked_for
 
@@ -380,6 +389,7 @@ ALL = [
     an_end_is_told_with_its_cause,
     only_what_is_asked_for_is_told,
     a_refusal_is_told_with_what_was_asked,
+    a_refusal_names_its_slot,
     a_place_is_never_used_again,
     a_word_that_is_none_is_told,
     acknowledgements_follow_what_was_printed,
@@ -388,4 +398,10 @@ ALL = [
     questions_are_refused_where_they_may_not_be,
     texts_near_questions_are_refused,
     a_slot_is_dropped_once_its_stream_has_ended,
+    another_system_is_refused_by_an_output,
+    another_system_is_refused_within_a_run,
+    a_start_that_lies_ahead_ends_it,
+    a_system_is_chosen_at_each_start,
+    an_output_that_is_taken_away_ends_it,
+    a_follower_that_is_stopped_goes_on,
 ]

@@ -113,12 +113,28 @@ def server_frames():
     return [line[2:] for line in CONVERSATION.read_text().splitlines() if line.startswith("< ")]
 
 
-def asked_of(client, heard, said):
-    """The text of the first query of a follower that has been greeted by these frames."""
+def asked_of(client, heard, said, system="42"):
+    """The text of the first query of a follower that has been greeted by these frames, but for one that asks for the system."""
     client.settimeout(60)
     heard.read(struct.unpack(">I", heard.read(4))[0] - 4)
     client.sendall(b"".join(framed(digits) for digits in said[:5]))
+    asked = query_of(heard)
+    if asked == b"IDENTIFY_SYSTEM\0":
+        client.sendall(identity(system))
+        asked = query_of(heard)
+    return asked
+
+
+def query_of(heard):
+    """The text of the next query."""
     return heard.read(struct.unpack(">I", heard.read(5)[1:])[0] - 4)
+
+
+def identity(system):
+    """The answer of a server that says it is this system."""
+    values = [system, "1", "0/1000000", "app"]
+    row = struct.pack(">H", len(values)) + b"".join(struct.pack(">I", len(value)) + value.encode() for value in values)
+    return framed("44" + row.hex()) + framed("43" + b"IDENTIFY_SYSTEM\0".hex()) + framed("5a49")
 
 
 def wrong_of(status, said, due):

@@ -3,6 +3,7 @@ import struct
 import subprocess
 import time
 
+from asking import wrong_texts
 from connection import STARTUP, TERMINATE, Connection, Refused, framed
 from server import CONFIGURATION, Server
 
@@ -147,6 +148,26 @@ def wrong_reports(pubd, more, due):
         client.close()
         told = [f"pubd: connection 1{each if each == CLOSED else f': {each}'}" for each in due]
         return wrong + server.end(ended=told)
+
+
+def a_refusal_names_its_slot(pubd, subcat):
+    """As PostgreSQL names it: one that isn't there, one that is there already, and one that another connection streams from."""
+    with Server(pubd, 2) as server:
+        holder, client = Connection(server.port), Connection(server.port)
+        holder.create("s")
+        holder.start("s")
+        start = "START_REPLICATION SLOT {} LOGICAL 0/0 (proto_version '1', publication_names 'p')"
+        due = [
+            (start.format('"t_1"'), "42704", 'replication slot "t_1" does not exist'),
+            ("DROP_REPLICATION_SLOT t_1", "42704", 'replication slot "t_1" does not exist'),
+            ("CREATE_REPLICATION_SLOT s LOGICAL pgoutput", "42710", 'replication slot "s" already exists'),
+            (start.format("s"), "55006", 'replication slot "s" is active'),
+            ("DROP_REPLICATION_SLOT s", "55006", 'replication slot "s" is active'),
+        ]
+        wrong = wrong_texts(client, due)
+        for each in (holder, client):
+            each.close()
+        return wrong + server.end()
 
 
 def a_place_is_never_used_again(pubd, subcat):

@@ -4,24 +4,23 @@ import pathlib
 import random
 import re
 import socket
-import struct
 import subprocess
 import tempfile
 import time
 
 from connection import Connection, Refused, framed, status
 from cutting import Cutting
+from followers import asked_of, server_frames
 from server import Server, inserts, messages, printed_of_inserts, printed_of_messages
 
 CONNECTIONS = 1000
 TRANSACTIONS, CUTS, KILLS = 1000, 300, 50
 # How many bytes pass before a stream begins, at most, and how many more before a cut.
-ASKING, STREAMING = 600, 1000
+ASKING, STREAMING = 800, 1000
 # How many bytes pass between two kills, at most.
 STRIDE = 9000
 # For how many seconds a server may be silent before it is asked, and then again.
 PATIENCE = 30
-STARTUP_ANSWERS = [framed("5200000000"), framed("5a49")]
 STREAM_BEGINS = framed("57000000")
 
 
@@ -136,11 +135,9 @@ def a_silent_server_is_asked_and_then_lost(pubd, subcat):
         words = [word for word in words_of(subcat, listener.getsockname()[1]) if word != "--create"]
         follower = subprocess.Popen(words, stdout=subprocess.DEVNULL, stderr=subprocess.PIPE, text=True)
         client = listener.accept()[0]
-        client.settimeout(3 * PATIENCE)
         heard = client.makefile("rb")
-        heard.read(struct.unpack(">I", heard.read(4))[0] - 4)
-        client.sendall(b"".join(STARTUP_ANSWERS))
-        heard.read(struct.unpack(">I", heard.read(5)[1:])[0] - 4)
+        asked_of(client, heard, server_frames())
+        client.settimeout(3 * PATIENCE)
         client.sendall(STREAM_BEGINS)
         begun = time.monotonic()
         asked = heard.read(39)

@@ -61,13 +61,13 @@ class Server:
     """pubd, which serves so many connections, and runs the script once so many streams have begun, or several beside one another.
     What it says of connections, how they ended and which it couldn't take, is said apart."""
 
-    def __init__(self, pubd, connections, lines=(), awaited=0, more=(), user=None, host="127.0.0.1", scripts=()):
+    def __init__(self, pubd, connections, lines=(), awaited=0, more=(), user=None, host="127.0.0.1", scripts=(), port=0, configuration=CONFIGURATION):
         self.folder = tempfile.TemporaryDirectory()
         self.script = pathlib.Path(self.folder.name) / "script"
         files = [self.script, *(self.script.with_name(f"script{at}") for at in range(1, len(scripts)))]
         for file, each in zip(files, scripts or [lines]):
             file.write_text("".join(line + "\n" for line in each))
-        words = [*more, "--await-streams", str(awaited), CONFIGURATION, f"{host}:0", str(connections), *files]
+        words = [*more, "--await-streams", str(awaited), configuration, f"{host}:{port}", str(connections), *files]
         if user is not None:
             pubd, words = self.opened_to(user, pubd, words)
         self.process = subprocess.Popen([pubd, *words], stdout=subprocess.PIPE, stderr=subprocess.PIPE, text=True, user=user)

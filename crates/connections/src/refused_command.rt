@@ -1,8 +1,7 @@
 //! A command that was refused, for whoever runs the server.
 
 use pqformat::Text;
-use replcmd::CmdFault;
-use server::DeskFault;
+use server::{DeskFault, Refusal};
 use std::fmt;
 
 /// How many publications are told of, and how many bytes of each: PostgreSQL's names have no more.
@@ -16,8 +15,8 @@ const MOST_CHARACTERS: usize = 200;
 /// What a client asked for that was refused, which the answer to it has no place for.
 #[derive(Drop)]
 pub enum RefusedCommand<'a> {
-    /// A text that is no command, or none that is served.
-    Text(&'a str, CmdFault),
+    /// A text that is no command, or none that is served, or a question.
+    Text(&'a str, Refusal),
     /// A command, by its first word, of a slot.
     OfSlot(&'static str, &'a str, DeskFault),
     /// A START of a slot and of publications.
@@ -27,9 +26,9 @@ pub enum RefusedCommand<'a> {
 impl<'a> fmt::Display for RefusedCommand<'a> {
     fn fmt<W: fmt::Write>(&self, f: &mut fmt::Formatter<W>) -> fmt::Result {
         match self {
-            RefusedCommand::Text(text, fault) => {
+            RefusedCommand::Text(text, refusal) => {
                 write_text(f, text)?;
-                write!(f, ": {fault}")
+                write!(f, ": {refusal}")
             }
             RefusedCommand::OfSlot(command, slot, fault) => {
                 write!(f, "{command} of slot {slot}: {fault}")

@@ -8,7 +8,7 @@ use crate::incoming::Incoming;
 use crate::options::Options;
 use bytes::BytesMut;
 use client::ClientFault;
-use frames::{Back, Front, Query, write_front};
+use frames::{Back, DataRow, DataValue, Front, Query, write_front};
 use pqformat::Text;
 use replcmd::write_position;
 use std::alloc::{AllocError, Global};
@@ -54,6 +54,63 @@ pub(crate) fn greet<R: Wait, S: Read + Write>(
 ) -> Result<(), FollowFault> {
     socket.write_all(STARTUP).map_err(FollowFault::Connection)?;
     wait_for(rt, incoming, socket, End::ReadyForQuery)
+}
+
+/// Asks the server which system it is: the first value of the row that answers IDENTIFY_SYSTEM (PostgreSQL 15, 55.4).
+pub(crate) fn ask_system<R: Wait, S: Read + Write>(
+    rt: &R,
+    alloc: Global,
+    incoming: &mut Incoming,
+    socket: &mut S,
+) -> Result<String, FollowFault> {
+    send_query(alloc, socket, "IDENTIFY_SYSTEM".to_string(alloc)?)?;
+    let mut system = None;
+    let answered = take_system(rt, incoming, socket, &mut system);
+    match (answered, system) {
+        (Err(fault), _) => Err(fault),
+        (Ok(()), Some(system)) => Ok(system),
+        (Ok(()), None) => Err(FollowFault::Client(ClientFault::Order)),
+    }
+}
+
+/// Takes the frames of an answer, and keeps the first value of its row.
+fn take_system<R: Wait, S: Read>(
+    rt: &R,
+    incoming: &mut Incoming,
+    socket: &mut S,
+    system: &mut Option<String>,
+) -> Result<(), FollowFault> {
+    for _ in rt.forever() {
+        let (frame, length) = incoming.next(rt, socket)?;
+        incoming.pass(length);
+        if is_last(frame, system)? {
+            return Ok(());
+        }
+    }
+    Err(FollowFault::Ended)
+}
+
+/// Whether the frame ends the answer; of a row the first value is kept.
+fn is_last(frame: Back, system: &mut Option<String>) -> Result<bool, FollowFault> {
+    match frame {
+        Back::DataRow(row) => {
+            *system = first_text(row);
+            Ok(false)
+        }
+        other => match end_of(other)? {
+            None => Ok(false),
+            Some(End::ReadyForQuery) => Ok(true),
+            Some(End::CopyBothResponse) => Err(FollowFault::Client(ClientFault::Order)),
+        },
+    }
+}
+
+/// The first value of a row, where it is a text.
+fn first_text(row: DataRow) -> Option<String> {
+    match row.values.into_vec().into_iter().next() {
+        Some(DataValue::Bytes(bytes)) => String::from_utf8(bytes.into_vec()).ok(),
+        Some(DataValue::Null) | None => None,
+    }
 }
 
 fn create<R: Wait, S: Read + Write>(

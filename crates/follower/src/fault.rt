@@ -1,4 +1,4 @@
-//! Why a stream was not followed to its end, K1 to K6.
+//! Why a stream was not followed to its end, K1 to K7.
 
 use client::ClientFault;
 use frames::{ErrorResponse, FrameFault};
@@ -28,6 +28,27 @@ impl fmt::Display for ServerError {
         let code = beginning(self.code.as_str(), MOST_OF_CODE);
         let text = beginning(self.text.as_str(), MOST_OF_TEXT);
         write!(f, "{code} {text}")
+    }
+}
+
+/// A server that says it is another system than the one whose transactions were printed.
+#[derive(Debug, Drop)]
+pub struct OtherSystem {
+    /// The system that was followed before.
+    pub before: String,
+    /// The one that the server says it is.
+    pub now: String,
+}
+
+/// As much of each name as a line shows: servers chose both.
+impl fmt::Display for OtherSystem {
+    fn fmt<W: fmt::Write>(&self, f: &mut fmt::Formatter<W>) -> fmt::Result {
+        let before = beginning(self.before.as_str(), MOST_OF_TEXT);
+        let now = beginning(self.now.as_str(), MOST_OF_TEXT);
+        write!(
+            f,
+            "the server is system {now}, and what was printed before is of system {before}"
+        )
     }
 }
 
@@ -65,6 +86,9 @@ pub enum FollowFault {
     /// K6 where the output failed.
     #[error("K6: the output cannot be written: {0}")]
     Output(io::Error),
+    /// K7. Positions of one system say nothing of another.
+    #[error("K7: {0}")]
+    OtherSystem(OtherSystem),
 }
 
 impl From<AllocError> for FollowFault {

@@ -4,7 +4,7 @@ use crate::fault::{FollowFault, unread};
 use bytes::BytesMut;
 use frames::{Back, read_back};
 use std::alloc::Global;
-use std::io::Read;
+use std::io::{ErrorKind, Read};
 use std::sync::Wait;
 
 /// How many bytes are read at once, at most.
@@ -45,12 +45,13 @@ impl Incoming {
         Ok(read_back(self.alloc, self.unread.as_slice())?)
     }
 
-    /// Waits for more.
+    /// Waits for more. Where a signal ends the wait, as that which continues a stopped process, nothing has come.
     pub(crate) fn read_more<S: Read>(&mut self, socket: &mut S) -> Result<(), FollowFault> {
         self.unread.reserve(MOST_READ)?;
         match self.unread.read_from(socket) {
             Ok(0) => Err(FollowFault::Ended),
             Ok(_) => Ok(()),
+            Err(fault) if fault.kind() == ErrorKind::Interrupted => Ok(()),
             Err(fault) => Err(unread(fault)),
         }
     }

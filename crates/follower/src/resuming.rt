@@ -2,12 +2,13 @@
 
 ghost use Rattle.std.specs.Prelude.{◌≡◌, [], OnOk};
 
-use crate::asking::{create_if_absent, greet, send, start_stream};
-use crate::fault::FollowFault;
+use crate::asking::{ask_system, create_if_absent, greet, send, start_stream};
+use crate::fault::{FollowFault, OtherSystem};
 use crate::incoming::Incoming;
 use crate::intake::Intake;
 use crate::kept::Kept;
 use crate::options::Options;
+use crate::output::Output;
 use crate::printer::Printer;
 use crate::streamed::{body_in, carried, message_in, print_lines};
 use copyboth::ServerBody;
@@ -23,6 +24,8 @@ pub struct Subscription {
     alloc: Global,
     intake: Intake,
     printer: Printer,
+    /// The system whose transactions are printed, once it is known.
+    system: Option<String>,
     is_created: bool,
     /// Whether the server was asked for a sign of life, and nothing has come since.
     is_asked: bool,
@@ -31,17 +34,24 @@ pub struct Subscription {
 impl Subscription {
     /// Of one who has all that commits below the position of the options.
     pub fn new(alloc: Global, options: &Options<'_>) -> Self {
-        Subscription::behind(alloc, options, &Kept::new())
+        Subscription::behind(alloc, options, &Kept::new(), None)
     }
 
-    /// Of one whose output holds so much already, up to its last whole transaction, and counts.
-    pub fn behind(alloc: Global, options: &Options<'_>, kept: &Kept) -> Self {
+    /// Of one whose output holds so much already, up to its last whole transaction, and counts; and of this system, where that is
+    /// known.
+    pub fn behind(
+        alloc: Global,
+        options: &Options<'_>,
+        kept: &Kept,
+        system: Option<String>,
+    ) -> Self {
         let position = options.position.max(kept.position);
         let count = options.count.saturating_sub(kept.transactions);
         Subscription {
             alloc,
             intake: Intake::new(alloc, position, count),
             printer: Printer::new(alloc, options.form, &kept.cut()),
+            system,
             is_created: false,
             is_asked: false,
         }
@@ -53,7 +63,8 @@ impl Subscription {
     }
 }
 
-/// Follows the slot over one connection, as `follow` does, from where the subscription is. What `options.create` asks for is that the
+/// Follows the slot over one connection, as `follow` does, from where the subscription is. The server is asked first which system it
+/// is: one after the other has to be the same, since positions of another say nothing of what was printed (K7). What `options.create` asks for is that the
 /// slot is there. Each transaction is printed when it is whole, and once, whatever came of it on connections before; the Relation
 /// of a table stands in front of its first change. What was printed is acknowledged before more is read, and where the server asks.
 /// Where a read of the socket gives up, the server is asked for a keepalive; where the next one does too, it is silent. Behind all
@@ -61,7 +72,7 @@ impl Subscription {
 ///
 /// Where the fault is a passing one (`FollowFault::is_passing`), the subscription goes on over another connection. Once all is
 /// printed, a connection that is lost is no fault.
-pub fn resume<R: Wait, S: Read + Write, W: Write>(
+pub fn resume<R: Wait, S: Read + Write, W: Output>(
     rt: &R,
     alloc: Global,
     socket: &mut S,
@@ -70,7 +81,7 @@ pub fn resume<R: Wait, S: Read + Write, W: Write>(
     output: &mut W,
 ) -> Result<(), FollowFault> {
     let mut incoming = Incoming::new(alloc);
-    subscription.ask_for_stream(rt, &mut incoming, socket, options)?;
+    subscription.ask_for_stream(rt, &mut incoming, socket, options, output)?;
     let ended = subscription.take_frames(rt, &mut incoming, socket, output);
     drop(incoming);
     subscription.print(output)?;
@@ -82,14 +93,17 @@ pub fn resume<R: Wait, S: Read + Write, W: Write>(
 
 impl Subscription {
     /// Asks for the stream, up to its first frame. The slot is created once: if it is dropped later, what it missed would be lost.
-    fn ask_for_stream<R: Wait, S: Read + Write>(
+    fn ask_for_stream<R: Wait, S: Read + Write, W: Output>(
         &mut self,
         rt: &R,
         incoming: &mut Incoming,
         socket: &mut S,
         options: &Options<'_>,
+        output: &mut W,
     ) -> Result<(), FollowFault> {
         greet(rt, incoming, socket)?;
+        let system = ask_system(rt, self.alloc, incoming, socket)?;
+        self.meet(system, output)?;
         if options.create && !self.is_created {
             create_if_absent(rt, self.alloc, incoming, socket, options.slot)?;
             self.is_created = true;
@@ -97,6 +111,20 @@ impl Subscription {
         self.is_asked = false;
         let position = self.intake.connect();
         start_stream(rt, self.alloc, incoming, socket, options, position)
+    }
+
+    /// Takes the server for the system that it says it is, or refuses it where another one was followed.
+    fn meet<W: Output>(&mut self, system: String, output: &mut W) -> Result<(), FollowFault> {
+        match &self.system {
+            None => {
+                output
+                    .keep_system(system.as_str())
+                    .map_err(FollowFault::Output)?;
+                self.system = Some(system);
+                Ok(())
+            }
+            Some(before) => judge(self.alloc, before.as_str(), system),
+        }
     }
 
     /// Takes frames until all that is waited for is there.
@@ -255,4 +283,13 @@ impl Subscription {
         socket.write_all(&status).map_err(FollowFault::Connection)?;
         send(self.alloc, socket, &Front::CopyDone)
     }
+}
+
+/// Refuses a server that is another system than the one before.
+fn judge(alloc: Global, before: &str, now: String) -> Result<(), FollowFault> {
+    if now.as_str() == before {
+        return Ok(());
+    }
+    let before = before.to_string(alloc)?;
+    Err(FollowFault::OtherSystem(OtherSystem { before, now }))
 }

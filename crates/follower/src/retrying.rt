@@ -54,7 +54,10 @@ impl FollowFault {
         match self {
             FollowFault::Connection(_) | FollowFault::Silent | FollowFault::Ended => true,
             FollowFault::Server(said) => is_passing_code(said.code.as_str()),
-            FollowFault::Client(_) | FollowFault::LongCommand | FollowFault::Output(_) => false,
+            FollowFault::Client(_)
+            | FollowFault::LongCommand
+            | FollowFault::Output(_)
+            | FollowFault::OtherSystem(_) => false,
         }
     }
 }

@@ -6,8 +6,8 @@ use crate::streaming::Stream;
 use commons::{Commons, known_names, tables_of};
 use connections::{Gate, Line, RefusedCommand};
 use pqformat::{Items, Text};
-use replcmd::{CmdFault, StreamOptions};
-use server::{Desk, DeskFault, TableName};
+use replcmd::StreamOptions;
+use server::{Desk, DeskFault, Refusal, TableName};
 use shared_log::LogName;
 use slots::SlotName;
 use std::sync::Wait;
@@ -27,9 +27,12 @@ pub(crate) struct HubDesk<'h, L: LogName + SlotName, R: Wait, G: Gate> {
 }
 
 impl<'h, L: LogName + SlotName, R: Wait, G: Gate> HubDesk<'h, L, R, G> {
-    /// Tells the gate of a slot that could not be dropped.
+    /// Tells the gate of a slot that could not be dropped, unless it is one that a subscriber drops whether it is there or not.
     fn tell_drop(&self, slot: &str, dropped: &Result<(), DeskFault>) {
         if let Err(fault) = dropped {
+            if *fault == DeskFault::SlotMissing && is_of_copy(slot) {
+                return;
+            }
             let what = RefusedCommand::OfSlot("DROP_REPLICATION_SLOT", slot, *fault);
             self.gate.refused(self.number, &what);
         }
@@ -118,9 +121,9 @@ impl<'h, L: LogName + SlotName, R: Wait, G: Gate> Desk for HubDesk<'h, L, R, G> 
         }
     }
 
-    fn refused(&self, text: &str, fault: CmdFault) {
+    fn refused(&self, text: &str, refusal: Refusal) {
         self.gate
-            .refused(self.number, &RefusedCommand::Text(text, fault));
+            .refused(self.number, &RefusedCommand::Text(text, refusal));
     }
 
     fn flushed(&mut self, position: u64, ask: bool) {
@@ -131,4 +134,9 @@ impl<'h, L: LogName + SlotName, R: Wait, G: Gate> Desk for HubDesk<'h, L, R, G> 
             self.commons.tell_work(self.rt, latch);
         }
     }
+}
+
+/// Whether it is a slot that a subscriber of PostgreSQL has for the initial copy of a table: pg_SUBSCRIPTION_sync_TABLE_SYSTEM.
+fn is_of_copy(slot: &str) -> bool {
+    slot.starts_with("pg_") && slot.contains("_sync_")
 }

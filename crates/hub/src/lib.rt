@@ -23,4 +23,5 @@ pub use commons::{
 };
 pub use connections::{ConnectionEnd, Gate, OpenGate, RefusedCommand, Untaken};
 pub use hub::Hub;
+pub use server::Refusal;
 pub use serving::serve;

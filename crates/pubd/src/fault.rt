@@ -19,6 +19,8 @@ pub enum Fault {
     Script(#[from] ScriptFileFault),
     #[error("{0}")]
     Hub(HubFault),
+    #[error("no name can be chosen for the system: {0}")]
+    System(io::Error),
     #[error("the address cannot be listened at: {0}")]
     Listen(io::Error),
     #[error("standard output cannot be used: {0}")]
@@ -41,6 +43,7 @@ impl Ending for Fault {
             Fault::Config(_)
             | Fault::Script(_)
             | Fault::Hub(HubFault::Memory)
+            | Fault::System(_)
             | Fault::Listen(_)
             | Fault::Output(_)
             | Fault::EndedEarly

@@ -7,6 +7,8 @@ mod ending;
 mod fault;
 mod help;
 mod level;
+mod naming;
+mod questions;
 mod reports;
 mod scripts;
 mod status_page;
@@ -22,15 +24,17 @@ use command_line::{arguments_of, ended};
 use configuration::{Config, config_at};
 use ending::{Doors, end_server};
 use fault::Fault;
-use hub::{Hub, HubFault, HubSettings, OpenedHub, serve};
+use hub::{Hub, HubSettings, OpenedHub, serve};
 use level::Level;
+use naming::system_name;
+use questions::Questions;
 use reports::Reports;
 use scripting::{STANDARD_INPUT, Script, run_input, scripts_at};
 use scripts::{end_script, run_all};
 use shared_log::LogName;
 use slots::SlotName;
 use status_page::serve_status;
-use std::alloc::{AllocError, Global};
+use std::alloc::AllocError;
 use std::io::{Print, Stdin};
 use std::marker::Brand;
 use std::net::{Net, SocketAddr, TcpListener, TcpStream};
@@ -143,7 +147,7 @@ where
     R: Net<Listener = TcpListener, Stream = TcpStream> + Threads + Wait + Clock + Sync,
 {
     let config = config_at(rt, asked.config)?;
-    let opened = opened(rt.alloc(), config, asked.numbers).map_err(Fault::Hub)?;
+    let opened = opened(rt, config, asked.numbers)?;
     let streams = Streams {
         input: &rt.stdin(),
         output: &rt.stdout(),
@@ -153,15 +157,12 @@ where
 }
 
 /// A hub for this configuration, with those limits that are told.
-fn opened(alloc: Global, config: Config, numbers: &Numbers) -> Result<OpenedHub, HubFault> {
+fn opened(rt: &HostRuntime, config: Config, numbers: &Numbers) -> Result<OpenedHub, Fault> {
+    let alloc = rt.alloc();
     let (catalog, publications, server) = config.into_parts();
-    let mut opened = OpenedHub::new(
-        alloc,
-        catalog,
-        publications,
-        server.systemid,
-        server.records,
-    )?;
+    let system = system_name(rt, alloc, server.systemid).map_err(Fault::System)?;
+    let opened = OpenedHub::new(alloc, catalog, publications, system, server.records);
+    let mut opened = opened.map_err(Fault::Hub)?;
     opened.settings.chunks = server.chunks as u32;
     limit(&mut opened.settings, numbers);
     Ok(opened)
@@ -357,6 +358,7 @@ where
     let reports = Reports {
         errors,
         level: service.level,
+        questions: Questions::new(),
     };
     let served = serve(rt, service.listener, hub, service.connections, &reports);
     hub.end_awaiting(rt);

@@ -1,6 +1,7 @@
 //! What the server tells beside its clients.
 
 use crate::level::Level;
+use crate::questions::Questions;
 use hub::{ConnectionEnd, Gate, RefusedCommand, Untaken};
 use std::io;
 use std::io::Print;
@@ -19,6 +20,7 @@ fn is_told(level: Level, end: ConnectionEnd) -> bool {
 pub struct Reports<'e, E: Print> {
     pub errors: &'e E,
     pub level: Level,
+    pub questions: Questions,
 }
 
 impl<'e, E: Print> Gate for Reports<'e, E> {
@@ -29,6 +31,9 @@ impl<'e, E: Print> Gate for Reports<'e, E> {
     }
 
     fn refused(&self, connection: u32, what: &RefusedCommand<'_>) {
+        if self.level == Level::Error || !self.questions.is_due(what) {
+            return;
+        }
         let _ = match self.level {
             Level::Error => Ok(()),
             Level::Warning => self.tell_shortly(connection, what),

@@ -9,6 +9,7 @@ use Rattle.replcmd.specs.Commands.{Tells}
 use Rattle.pqformat.specs.Putting.{Extends}
 use Rattle.std.specs.declared.alloc.AllocError.{AllocError}
 use Rattle.server.specs.declared.desk_fault.DeskFault.{DeskFault}
+use Rattle.server.specs.declared.refusal.Refusal.{Refusal}
 use Rattle.server.specs.declared.refusal.Refusal.TheVariants as refusals
 use Rattle.server.specs.declared.service.Dialect.{Dialect}
 use Rattle.server.specs.declared.service.Dialect.TheVariants.{Commands, Questions}
@@ -50,9 +51,9 @@ is_ok (Err fault) = false
 abbrev pub Runs : List ℕ → Command → Bool → List Call → List ℕ → Type 0
 Runs database Identify begins asked text = (end : ℕ) × (systemid : List ℕ) × (asked ≡ End end ∷ System systemid ∷ []) × (text ≡ answer_to_identify systemid end database) × (begins ≡ false)
 Runs database (Create slot) begins asked text = (answer : Result ℕ DeskFault) × (asked ≡ CreateSlot slot answer ∷ []) × (text ≡ answer_to_create slot answer) × (begins ≡ false)
-Runs database (Drop slot) begins asked text = (answer : Result (Unit {0}) DeskFault) × (asked ≡ DropSlot slot answer ∷ []) × (text ≡ answer_to_drop answer) × (begins ≡ false)
+Runs database (Drop slot) begins asked text = (answer : Result (Unit {0}) DeskFault) × (asked ≡ DropSlot slot answer ∷ []) × (text ≡ answer_to_drop slot answer) × (begins ≡ false)
 Runs database (Start slot position options) begins asked text =
-    (answer : Result (Unit {0}) DeskFault) × (asked ≡ StartStream slot position options answer ∷ []) × (text ≡ answer_to_start answer) × (begins ≡ is_ok answer)
+    (answer : Result (Unit {0}) DeskFault) × (asked ≡ StartStream slot position options answer ∷ []) × (text ≡ answer_to_start slot answer) × (begins ≡ is_ok answer)
 
 -- the slot of a command to make one is no longer than slots' names are
 abbrev pub HasShortSlot : Command → Type 0
@@ -60,15 +61,20 @@ HasShortSlot (Create slot) = length slot ≤ 63
 HasShortSlot _ = Unit {0}
 
 -- A query that is no command: the code of the fault that its reading meets, or that memory ran out in the reading.
-pub record IsRefused (query : List ℕ) (asked : List Call) (text : List ℕ) : Type 0 where
+pub record IsRefused (why : CmdFault → Refusal) (query : List ℕ) (asked : List Call) (text : List ℕ) : Type 0 where
   pub fault : CmdFault
   pub nothing : asked ≡ []
-  pub answer : text ≡ error_and_ready (refusals.Command fault)
+  pub answer : text ≡ error_and_ready (why fault)
   pub read : Tells query (Err fault)
   pub no_command : fault ≢ commands.Memory → (c : Command) → SpellsCommand query c → ⊥
 
-abbrev pub Replies : List ℕ → List ℕ → Bool → List Call → List ℕ → Type 0
-Replies database query begins asked text = ((c : Command) × SpellsCommand query c × Runs database c begins asked text) ⊎ (IsRefused query asked text × (begins ≡ false))
+abbrev pub Replies : (CmdFault → Refusal) → List ℕ → List ℕ → Bool → List Call → List ℕ → Type 0
+Replies why database query begins asked text = ((c : Command) × SpellsCommand query c × Runs database c begins asked text) ⊎ (IsRefused why query asked text × (begins ≡ false))
+
+-- why a text is refused that is no command: as a question that isn't answered, or as what is none
+abbrev pub why_of : Bool → CmdFault → Refusal
+why_of true fault = refusals.Question fault
+why_of false fault = refusals.Command fault
 
 -- ---- questions
 
@@ -80,14 +86,18 @@ AnswersQuestion InitialCopy asked text = (asked ≡ []) × (text ≡ error_and_r
 AnswersQuestion (Publications names) asked text =
     (answer : Result (List (List ℕ)) DeskFault) × (asked ≡ calls.Publications names answer ∷ []) × (text ≡ publications_told answer)
 AnswersQuestion (Tables names) asked text = (answer : Result (List TableName) DeskFault) × (asked ≡ calls.Tables names answer ∷ []) × (text ≡ tables_told answer)
-AnswersQuestion (DropWhenFree slot) asked text = (answer : Result (Unit {0}) DeskFault) × (asked ≡ DropSlot slot answer ∷ []) × (text ≡ answer_to_drop answer)
+AnswersQuestion (DropWhenFree slot) asked text = (answer : Result (Unit {0}) DeskFault) × (asked ≡ DropSlot slot answer ∷ []) × (text ≡ answer_to_drop slot answer)
 
 -- a text that is a question
 abbrev pub IsAnswered : List ℕ → List Call → List ℕ → Type 0
 IsAnswered query asked text = (question : Question) × SpellsQuestion query question × AnswersQuestion question asked text
 
--- Where questions are answered, what is none is replied to as ever.
+-- whether a text is a question
+abbrev pub IsQuestioned : Bool → List ℕ → Type 0
+IsQuestioned true query = (question : Question) × SpellsQuestion query question
+IsQuestioned false query = (question : Question) → SpellsQuestion query question → ⊥
+
+-- Where questions are answered, what is none is replied to as ever. Where they aren't, one that is no command is refused as what it is.
 abbrev pub RepliesIn : Dialect → List ℕ → List ℕ → Bool → List Call → List ℕ → Type 0
-RepliesIn Commands database query begins asked text = Replies database query begins asked text
-RepliesIn Questions database query begins asked text =
-    (IsAnswered query asked text × (begins ≡ false)) ⊎ (((question : Question) → SpellsQuestion query question → ⊥) × Replies database query begins asked text)
+RepliesIn Commands database query begins asked text = (is_question : Bool) × IsQuestioned is_question query × Replies (why_of is_question) database query begins asked text
+RepliesIn Questions database query begins asked text = (IsAnswered query asked text × (begins ≡ false)) ⊎ (IsQuestioned false query × Replies (why_of false) database query begins asked text)

@@ -1,11 +1,12 @@
 -- What an ErrorResponse says of each cause (PostgreSQL 15, appendix A): the code, and the text.
-use Rattle.std.specs.Prelude.{ℕ, List, codes}
+use Rattle.std.specs.Prelude.{ℕ, List, ◌++◌, length, nat_le, codes, if◌then◌else◌}
+use Rattle.replcmd.specs.declared.words.TheConstants.{MOST_SLOT_NAME_BYTES}
 use Rattle.replcmd.specs.declared.fault.CmdFault.{CmdFault}
 use Rattle.replcmd.specs.declared.fault.CmdFault.TheVariants as commands
 use Rattle.server.specs.declared.desk_fault.DeskFault.{DeskFault}
 use Rattle.server.specs.declared.desk_fault.DeskFault.TheVariants as desks
 use Rattle.server.specs.declared.refusal.Refusal.{Refusal}
-use Rattle.server.specs.declared.refusal.Refusal.TheVariants.{Violation, Version, NoReplication, InitialCopy, Command, Asked}
+use Rattle.server.specs.declared.refusal.Refusal.TheVariants.{Violation, Version, NoReplication, InitialCopy, Command, Question, Asked}
 
 abbrev pub command_code : CmdFault → List ℕ
 command_code commands.Syntax = codes "42601"
@@ -51,12 +52,28 @@ refusal_code Version = codes "0A000"
 refusal_code NoReplication = codes "0A000"
 refusal_code InitialCopy = codes "0A000"
 refusal_code (Command fault) = command_code fault
+refusal_code (Question fault) = command_code fault
 refusal_code (Asked fault) = desk_code fault
 
 abbrev pub refusal_text : Refusal → List ℕ
 refusal_text Violation = codes "protocol violation"
 refusal_text Version = codes "unsupported protocol version"
 refusal_text NoReplication = codes "only replication=database is served"
-refusal_text InitialCopy = codes "initial copies are not served"
+refusal_text InitialCopy = codes "initial copies are not served: use WITH (copy_data = false)"
 refusal_text (Command fault) = command_text fault
+refusal_text (Question fault) = codes "not answered without --answer-postgresql"
 refusal_text (Asked fault) = desk_text fault
+
+-- what a slot is that refuses, named as PostgreSQL 15 names it
+abbrev pub named_slot : List ℕ → List ℕ → List ℕ
+named_slot slot state = codes "replication slot \"" ++ slot ++ codes "\" " ++ state
+
+-- the text of a fault of this slot; a name that no slot may have, since it is too long, isn't repeated
+abbrev pub state_text : DeskFault → List ℕ → List ℕ
+state_text desks.SlotMissing slot = named_slot slot (codes "does not exist")
+state_text desks.SlotInUse slot = named_slot slot (codes "is active")
+state_text desks.SlotExists slot = named_slot slot (codes "already exists")
+state_text fault slot = desk_text fault
+
+abbrev pub slot_text : DeskFault → List ℕ → List ℕ
+slot_text fault slot = if nat_le (length slot) MOST_SLOT_NAME_BYTES then state_text fault slot else desk_text fault

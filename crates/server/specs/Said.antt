@@ -16,8 +16,8 @@ use Rattle.server.specs.declared.refusal.Refusal.{Refusal}
 use Rattle.server.specs.declared.service.Dialect.{Dialect}
 use Rattle.server.specs.declared.service.Dialect.TheVariants.{Commands, Questions}
 use Rattle.server.specs.declared.service.Service.{Service}
-use Rattle.server.specs.declared.refusal.Refusal.TheVariants.{NoReplication, Asked}
-use Rattle.server.specs.Refusals.{refusal_code, refusal_text}
+use Rattle.server.specs.declared.refusal.Refusal.TheVariants.{NoReplication}
+use Rattle.server.specs.Refusals.{refusal_code, refusal_text, desk_code, slot_text}
 
 -- a frame as it is sent
 unfoldable pub sent_frame : Back → List ℕ
@@ -40,6 +40,10 @@ ready = sent_frame (ReadyForQuery statuses.Idle)
 -- a command that is refused: the session goes on
 abbrev pub error_and_ready : Refusal → List ℕ
 error_and_ready refusal = error_of_refusal refusal ++ ready
+
+-- what was asked of this slot is refused: the session goes on
+unfoldable pub slot_refused : DeskFault → List ℕ → List ℕ
+slot_refused fault slot = sent_frame (error_frame (desk_code fault) (slot_text fault slot)) ++ ready
 
 -- ---- the beginning of a session
 
@@ -118,16 +122,16 @@ slot_made slot position = sent_frame slot_columns ++ (sent_frame (slot_values sl
 
 unfoldable pub answer_to_create : List ℕ → Result ℕ DeskFault → List ℕ
 answer_to_create slot (Ok position) = slot_made slot position
-answer_to_create slot (Err fault) = error_and_ready (Asked fault)
+answer_to_create slot (Err fault) = slot_refused fault slot
 
-unfoldable pub answer_to_drop : Result (Unit {0}) DeskFault → List ℕ
-answer_to_drop (Ok u) = sent_frame (completion (codes "DROP_REPLICATION_SLOT")) ++ ready
-answer_to_drop (Err fault) = error_and_ready (Asked fault)
+unfoldable pub answer_to_drop : List ℕ → Result (Unit {0}) DeskFault → List ℕ
+answer_to_drop slot (Ok u) = sent_frame (completion (codes "DROP_REPLICATION_SLOT")) ++ ready
+answer_to_drop slot (Err fault) = slot_refused fault slot
 
 -- START_REPLICATION: the stream begins
-unfoldable pub answer_to_start : Result (Unit {0}) DeskFault → List ℕ
-answer_to_start (Ok u) = sent_frame (CopyBothResponse (record { format = 0; formats = [] }))
-answer_to_start (Err fault) = error_and_ready (Asked fault)
+unfoldable pub answer_to_start : List ℕ → Result (Unit {0}) DeskFault → List ℕ
+answer_to_start slot (Ok u) = sent_frame (CopyBothResponse (record { format = 0; formats = [] }))
+answer_to_start slot (Err fault) = slot_refused fault slot
 
 -- the end of a stream, behind all of it: the command that began it is complete
 unfoldable pub end_of_stream : List ℕ

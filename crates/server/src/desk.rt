@@ -5,9 +5,10 @@ ghost use Rattle.std.specs.List.{AllByRecursion};
 ghost use Rattle.server.specs.Answers.{IsShort, IsShortName};
 
 use crate::desk_fault::DeskFault;
+use crate::refusal::Refusal;
 use crate::table_name::TableName;
 use pqformat::{Items, Text};
-use replcmd::{CmdFault, StreamOptions};
+use replcmd::StreamOptions;
 
 /// The desk of a connection. `told` is what one call with its answer says of a desk before and after it; a desk that
 /// tells nothing says `Unit`, one that keeps a record of its calls says that it grew by this one.
@@ -51,8 +52,8 @@ pub trait Desk {
     fn drop_when_free(&mut self, slot: &str) -> Result<(), DeskFault>
         ensures { told self.old (DropSlot slot.now result) self.new };
 
-    /// A text was refused that is no command, or none that is served. It is told and asks nothing.
-    fn refused(&self, _text: &str, _fault: CmdFault) {}
+    /// A text was refused that is no command, or none that is served, or a question. It is told and asks nothing.
+    fn refused(&self, _text: &str, _refusal: Refusal) {}
 
     /// A client has flushed all before the position; `ask`: it wants an answer at once.
     fn flushed(&mut self, position: u64, ask: bool)

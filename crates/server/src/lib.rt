@@ -20,6 +20,7 @@ mod say;
 mod say_answers;
 mod service;
 mod session;
+mod slot_refusal;
 mod stage;
 mod streaming;
 mod table_name;

@@ -1,7 +1,7 @@
 //! Queries: the command that a text spells, what it asks of the desk, and its answer.
 
 ghost use Rattle.std.specs.Prelude.{◌≡◌, ◌≤◌, length, false};
-ghost use Rattle.server.specs.Conversation.{Answered, Runs, Replies, HasShortSlot, is_ok};
+ghost use Rattle.server.specs.Conversation.{Answered, Runs, Replies, HasShortSlot, is_ok, why_of};
 ghost use Rattle.replcmd.specs.declared.command.Command.TheVariants.{Identify, Create, Start, Drop};
 
 use crate::database::Database;
@@ -11,7 +11,7 @@ use crate::refusal::Refusal;
 use crate::say::{say_created, say_dropped, say_identified, say_refused_ready, say_started};
 use bytes::BytesMut;
 use pqformat::Text;
-use replcmd::{Command, StreamOptions, parse_command};
+use replcmd::{CmdFault, Command, StreamOptions, parse_command};
 use std::alloc::{AllocError, Global};
 
 fn identify<D: Desk>(
@@ -53,7 +53,7 @@ fn drop_slot<D: Desk>(
         out.old.items desk.new out.new.items }
 {
     let answer = desk.drop_slot(slot.as_str());
-    say_dropped(alloc, out, answer)
+    say_dropped(alloc, out, slot.as_str(), answer)
 }
 
 /// Whether a stream has begun.
@@ -72,7 +72,7 @@ fn start<D: Desk>(
 {
     let answer = desk.start(slot.as_str(), position, options);
     let begun = has_begun(answer);
-    say_started(alloc, out, answer)?;
+    say_started(alloc, out, slot.as_str(), answer)?;
     Ok(begun)
 }
 
@@ -113,8 +113,18 @@ fn run<D: Desk>(
     }
 }
 
-/// Answers the text of a Query in a session on this database; whether a stream has begun, and with it no query is waited
-/// for.
+/// Why a text is refused that is no command.
+fn why(is_question: bool, fault: CmdFault) -> Refusal
+    ensures { result ≡ why_of is_question fault }
+{
+    match is_question {
+        true => Refusal::Question(fault),
+        false => Refusal::Command(fault),
+    }
+}
+
+/// Answers the text of a Query in a session on this database, where questions are not answered, or it is none; whether a stream has
+/// begun, and with it no query is waited for.
 ///
 /// A command makes its calls of the desk, each once. A text that is none makes no call: it is refused by the code of its
 /// fault, and the next query is waited for.
@@ -122,11 +132,13 @@ pub(crate) fn reply<D: Desk>(
     alloc: Global,
     database: &Database,
     query: &str,
+    is_question: bool,
     desk: &mut D,
     out: &mut BytesMut,
 ) -> Result<bool, AllocError>
-    ensures { Answered D.told result (λ begun. Replies database.now query.now begun) desk.old
-        out.old.items desk.new out.new.items }
+    ensures { Answered D.told result
+        (λ begun. Replies (why_of is_question) database.now query.now begun) desk.old out.old.items
+        desk.new out.new.items }
 {
     match parse_command(alloc, query) {
         Ok(command) => {
@@ -135,8 +147,9 @@ pub(crate) fn reply<D: Desk>(
             answered
         }
         Err(fault) => {
-            desk.refused(query, fault);
-            say_refused_ready(alloc, out, Refusal::Command(fault))?;
+            let refusal = why(is_question, fault);
+            desk.refused(query, refusal);
+            say_refused_ready(alloc, out, refusal)?;
             Ok(false)
         }
     }

@@ -1,10 +1,11 @@
 //! Why a session or a command is refused, as the client is told it.
 
 ghost use Rattle.std.specs.Prelude.{◌≡◌, ◌≤◌, length};
-ghost use Rattle.server.specs.Refusals.{refusal_code, refusal_text};
+ghost use Rattle.server.specs.Refusals.{command_code, refusal_code, refusal_text};
 
 use crate::desk_fault::DeskFault;
 use replcmd::CmdFault;
+use std::fmt;
 
 /// A cause with a code of its own (PostgreSQL 15, appendix A) and a text.
 #[derive(Clone, Copy, PartialEq, Eq)]
@@ -19,6 +20,8 @@ pub enum Refusal {
     InitialCopy,
     /// A text that is no command.
     Command(CmdFault),
+    /// One that is a question, where questions are not answered.
+    Question(CmdFault),
     /// A command that the desk refused.
     Asked(DeskFault),
 }
@@ -28,19 +31,25 @@ impl Refusal {
     pub fn told(self) -> (&'static str, &'static str)
         ensures code { result.0.now ≡ refusal_code self }
         ensures text { result.1.now ≡ refusal_text self }
-        ensures short { (length result.0.now ≤ 40) × (length result.1.now ≤ 40) }
+        ensures short { (length result.0.now ≤ 40) × (length result.1.now ≤ 80) }
     {
         match self {
             Refusal::Violation => ("08P01", "protocol violation"),
             Refusal::Version => ("0A000", "unsupported protocol version"),
             Refusal::NoReplication => ("0A000", "only replication=database is served"),
-            Refusal::InitialCopy => ("0A000", "initial copies are not served"),
+            Refusal::InitialCopy => (
+                "0A000",
+                "initial copies are not served: use WITH (copy_data = false)",
+            ),
             Refusal::Command(CmdFault::Syntax) => ("42601", "syntax error"),
             Refusal::Command(CmdFault::BadName) => ("42602", "bad slot name"),
             Refusal::Command(CmdFault::BadPosition) => ("42601", "bad position"),
             Refusal::Command(CmdFault::Unsupported) => ("0A000", "not supported"),
             Refusal::Command(CmdFault::BadOption) => ("22023", "bad option"),
             Refusal::Command(CmdFault::Memory) => ("53200", "out of memory"),
+            Refusal::Question(fault) => {
+                (code_of(fault), "not answered without --answer-postgresql")
+            }
             Refusal::Asked(DeskFault::SlotMissing) => ("42704", "slot does not exist"),
             Refusal::Asked(DeskFault::SlotInUse) => ("55006", "slot is in use"),
             Refusal::Asked(DeskFault::SlotExists) => ("42710", "slot already exists"),
@@ -55,6 +64,33 @@ impl Refusal {
                 "start is ahead of what the slot has sent",
             ),
             Refusal::Asked(DeskFault::Memory) => ("53200", "out of memory"),
+        }
+    }
+}
+
+/// The code of a text that is no command.
+fn code_of(fault: CmdFault) -> &'static str
+    ensures code { result.now ≡ command_code fault }
+    ensures short { length result.now ≤ 40 }
+{
+    match fault {
+        CmdFault::Syntax => "42601",
+        CmdFault::BadName => "42602",
+        CmdFault::BadPosition => "42601",
+        CmdFault::Unsupported => "0A000",
+        CmdFault::BadOption => "22023",
+        CmdFault::Memory => "53200",
+    }
+}
+
+/// As it is told to who runs the server.
+impl fmt::Display for Refusal {
+    fn fmt<W: fmt::Write>(&self, f: &mut fmt::Formatter<W>) -> fmt::Result {
+        match self {
+            Refusal::Command(fault) => write!(f, "{fault}"),
+            Refusal::Question(fault) => write!(f, "{fault}: --answer-postgresql answers it"),
+            Refusal::Asked(fault) => write!(f, "{fault}"),
+            other => f.write_str(other.told().1),
         }
     }
 }

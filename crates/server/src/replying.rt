@@ -1,8 +1,8 @@
 //! Queries where questions are answered, and where they aren't.
 
-ghost use Rattle.std.specs.Prelude.{◌≡◌, false};
+ghost use Rattle.std.specs.Prelude.{◌≡◌, false, IfOk};
 ghost use Rattle.server.specs.Questions.{SpellsQuestion};
-ghost use Rattle.server.specs.Conversation.{Answered, AnswersQuestion, RepliesIn};
+ghost use Rattle.server.specs.Conversation.{Answered, AnswersQuestion, IsQuestioned, RepliesIn};
 
 use crate::database::Database;
 use crate::desk::Desk;
@@ -52,12 +52,27 @@ fn drop_when_free<D: Desk>(
         desk.old out.old.items desk.new out.new.items }
 {
     let answer = desk.drop_when_free(slot.as_str());
-    say_dropped(alloc, out, answer)
+    say_dropped(alloc, out, slot.as_str(), answer)
+}
+
+/// Refuses the initial copy of a table, and tells that to the desk.
+fn refuse_copy<D: Desk>(
+    alloc: Global,
+    query: &str,
+    desk: &mut D,
+    out: &mut BytesMut,
+) -> Result<(), AllocError>
+    ensures { Answered D.told result (λ _. AnswersQuestion Question.InitialCopy) desk.old
+        out.old.items desk.new out.new.items }
+{
+    desk.refused(query, Refusal::InitialCopy);
+    say_refused_ready(alloc, out, Refusal::InitialCopy)
 }
 
 /// Answers a question.
 fn answer_question<D: Desk>(
     alloc: Global,
+    query: &str,
     question: &Question,
     desk: &mut D,
     out: &mut BytesMut,
@@ -68,7 +83,7 @@ fn answer_question<D: Desk>(
     match question {
         Question::SearchPath => say_path_set(alloc, out),
         Question::DirectoryMode => say_mode(alloc, out),
-        Question::InitialCopy => say_refused_ready(alloc, out, Refusal::InitialCopy),
+        Question::InitialCopy => refuse_copy(alloc, query, desk, out),
         Question::Publications(names) => tell_publications(alloc, names, desk, out),
         Question::Tables(names) => tell_tables(alloc, names, desk, out),
         Question::DropWhenFree(slot) => drop_when_free(alloc, slot, desk, out),
@@ -89,10 +104,38 @@ fn reply_or_answer<D: Desk>(
 {
     match question_of(alloc, query)? {
         Some(question) => {
-            answer_question(alloc, &question, desk, out)?;
+            answer_question(alloc, query, &question, desk, out)?;
             Ok(false)
         }
-        None => reply(alloc, database, query, desk, out),
+        None => reply(alloc, database, query, false, desk, out),
+    }
+}
+
+/// Answers the text of a Query where questions are not answered; whether a stream has begun.
+fn reply_or_refuse<D: Desk>(
+    alloc: Global,
+    database: &Database,
+    query: &str,
+    desk: &mut D,
+    out: &mut BytesMut,
+) -> Result<bool, AllocError>
+    ensures { Answered D.told result
+        (λ begun. RepliesIn Dialect.Commands database.now query.now begun) desk.old out.old.items
+        desk.new out.new.items }
+{
+    let is_question = is_question(alloc, query)?;
+    reply(alloc, database, query, is_question, desk, out)
+}
+
+fn is_question(alloc: Global, query: &str) -> Result<bool, AllocError>
+    ensures { IfOk result (λ found. IsQuestioned found query.now) }
+{
+    match question_of(alloc, query)? {
+        Some(question) => {
+            drop(question);
+            Ok(true)
+        }
+        None => Ok(false),
     }
 }
 
@@ -100,7 +143,7 @@ fn reply_or_answer<D: Desk>(
 /// for.
 ///
 /// Where questions are answered, one makes its call of the desk, or none, and the next query is waited for. All else is answered
-/// as by `reply`.
+/// as by `reply`, which refuses one where they aren't.
 pub(crate) fn reply_in<D: Desk>(
     alloc: Global,
     dialect: Dialect,
@@ -113,7 +156,7 @@ pub(crate) fn reply_in<D: Desk>(
         desk.old out.old.items desk.new out.new.items }
 {
     match dialect {
-        Dialect::Commands => reply(alloc, database, query, desk, out),
+        Dialect::Commands => reply_or_refuse(alloc, database, query, desk, out),
         Dialect::Questions => reply_or_answer(alloc, database, query, desk, out),
     }
 }

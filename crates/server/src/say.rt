@@ -13,6 +13,7 @@ ghost use Rattle.server.specs.Said.{sent_frame, error_frame, error_of_refusal, e
 use crate::answer_rows::{identity_columns, identity_values, slot_columns, slot_values};
 use crate::desk_fault::DeskFault;
 use crate::refusal::Refusal;
+use crate::slot_refusal::say_slot_refused;
 use bytes::BytesMut;
 use frames::{
     Back, BackendKeyData, ColumnDescription, ColumnType, CommandComplete, CopyBothResponse,
@@ -89,13 +90,27 @@ fn error_fields(alloc: Global, code: &str, text: &str) -> Result<Items<ErrorFiel
     Ok(Items::new(fields))
 }
 
+#[tactic(auto, using(pqformat::proofs::Putting::in_place))]
+pub(crate) fn say_error(
+    alloc: Global,
+    out: &mut BytesMut,
+    code: &str,
+    text: &str,
+) -> Result<(), AllocError>
+    requires code { length code.now ≤ 40 }
+    requires text { length text.now ≤ 120 }
+    ensures { Puts result out.old.items out.new.items (sent_frame (error_frame code.now text.now)) }
+{
+    let fields = error_fields(alloc, code, text)?;
+    say(out, Back::ErrorResponse(ErrorResponse { fields }))
+}
+
 #[tactic(auto, using(pqformat::proofs::Putting::in_place), unfolding(crate::specs::Said::error_of_refusal))]
 pub fn say_refused(alloc: Global, out: &mut BytesMut, refusal: Refusal) -> Result<(), AllocError>
     ensures { Puts result out.old.items out.new.items (error_of_refusal refusal) }
 {
     let (code, text) = refusal.told();
-    let fields = error_fields(alloc, code, text)?;
-    say(out, Back::ErrorResponse(ErrorResponse { fields }))
+    say_error(alloc, out, code, text)
 }
 
 /// That a command is refused, and that the next one is waited for.
@@ -211,16 +226,17 @@ pub(crate) fn say_completed(alloc: Global, out: &mut BytesMut, tag: &str) -> Res
 pub fn say_dropped(
     alloc: Global,
     out: &mut BytesMut,
+    slot: &str,
     answer: Result<(), DeskFault>,
 ) -> Result<(), AllocError>
-    ensures { Puts result out.old.items out.new.items (answer_to_drop answer) }
+    ensures { Puts result out.old.items out.new.items (answer_to_drop slot.now answer) }
 {
     match answer {
         Ok(()) => {
             say_completed(alloc, out, "DROP_REPLICATION_SLOT")?;
             say_ready(out)
         }
-        Err(fault) => say_refused_ready(alloc, out, Refusal::Asked(fault)),
+        Err(fault) => say_slot_refused(alloc, out, fault, slot),
     }
 }
 
@@ -229,9 +245,10 @@ pub fn say_dropped(
 pub fn say_started(
     alloc: Global,
     out: &mut BytesMut,
+    slot: &str,
     answer: Result<(), DeskFault>,
 ) -> Result<(), AllocError>
-    ensures { Puts result out.old.items out.new.items (answer_to_start answer) }
+    ensures { Puts result out.old.items out.new.items (answer_to_start slot.now answer) }
 {
     match answer {
         Ok(()) => {
@@ -241,7 +258,7 @@ pub fn say_started(
                 Back::CopyBothResponse(CopyBothResponse { format: 0, formats }),
             )
         }
-        Err(fault) => say_refused_ready(alloc, out, Refusal::Asked(fault)),
+        Err(fault) => say_slot_refused(alloc, out, fault, slot),
     }
 }
 
@@ -382,6 +399,6 @@ pub fn say_created(
 {
     match answer {
         Ok(position) => say_slot(alloc, out, slot, position),
-        Err(fault) => say_refused_ready(alloc, out, Refusal::Asked(fault)),
+        Err(fault) => say_slot_refused(alloc, out, fault, slot),
     }
 }

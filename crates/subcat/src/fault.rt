@@ -22,6 +22,8 @@ pub enum Fault {
     JournalInUse,
     #[error("the output file holds something else than what subcat prints")]
     ForeignJournal,
+    #[error("the file beside the output that says its system cannot be used: {0}")]
+    System(io::Error),
     #[error("no connection: {0}")]
     Connect(io::Error),
     #[error("{0}")]
@@ -40,6 +42,7 @@ impl Ending for Fault {
             | Fault::Journal(_)
             | Fault::JournalInUse
             | Fault::ForeignJournal
+            | Fault::System(_)
             | Fault::Connect(_)
             | Fault::Follow(_)
             | Fault::Memory(_) => 1,

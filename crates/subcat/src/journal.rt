@@ -1,36 +1,75 @@
 //! A file that keeps what is printed: where it ends the next run goes on.
 
 use crate::fault::Fault;
-use follower::{Form, Kept};
+use crate::system_file::SystemFile;
+use follower::{Form, Kept, Output};
 use std::alloc::Global;
-use std::fs::{File, OpenOptions, TryLockError};
+use std::fs::{File, Metadata, OpenOptions, TryLockError, metadata};
 use std::io;
-use std::io::{BufRead, BufReader, Write};
+use std::io::{BufRead, BufReader, ErrorKind, Write};
+use std::os::unix::fs::MetadataExt;
 
-/// An output that outlives its run, and that one run at a time has.
+/// An output that outlives its run, and that one run at a time has. Beside it stands a file that says of which system it is.
 ///
-/// What was flushed is on the disk. A run that is killed leaves whole transactions and at most the beginning of one, which the next
-/// run cuts off.
+/// What was flushed is on the disk, under the name by which the next run looks for it. A run that is killed leaves whole transactions
+/// and at most the beginning of one, which the next run cuts off.
 #[derive(Drop)]
-pub struct Journal {
+pub struct Journal<'a> {
+    rt: &'a HostRuntime,
+    path: &'a str,
     file: File,
+    system: SystemFile<'a>,
 }
 
-impl Journal {
+impl<'a> Journal<'a> {
     /// Opens the file, or makes one, and answers what it holds of earlier runs that printed in this form. It is refused where it
     /// holds something else.
     pub fn open(
-        rt: &HostRuntime,
+        rt: &'a HostRuntime,
         alloc: Global,
-        path: &str,
+        path: &'a str,
         form: Form,
     ) -> Result<(Self, Kept), Fault> {
+        let system = SystemFile::beside(rt, alloc, path)?;
         let mut options = OpenOptions::new();
         options.read(true).append(true).create(true);
         let file: File = options.open(rt, path).map_err(Fault::Journal)?;
         let kept = taken(alloc, &file, form)?;
-        Ok((Journal { file }, kept))
+        let journal = Journal {
+            rt,
+            path,
+            file,
+            system,
+        };
+        Ok((journal, kept))
     }
+
+    /// The system that it holds transactions of, where it holds some and this is known.
+    pub fn system(&self, kept: &Kept) -> Result<Option<String>, Fault> {
+        if kept.transactions == 0 {
+            return Ok(None);
+        }
+        self.system.read().map_err(Fault::System)
+    }
+
+    /// Refused where its name names another file by now, or none: what is printed then is lost to the next run.
+    fn look(&self) -> io::Result<()> {
+        let own = self.file.metadata()?;
+        match metadata(self.rt, self.path) {
+            Ok(named) if is_same(&own, &named) => Ok(()),
+            Ok(_) => Err(io::Error::other(REPLACED)),
+            Err(fault) if fault.kind() == ErrorKind::NotFound => Err(io::Error::other(REMOVED)),
+            Err(fault) => Err(fault),
+        }
+    }
+}
+
+const REMOVED: &str = "its file was removed";
+
+const REPLACED: &str = "another file stands in the place of its own";
+
+fn is_same(own: &Metadata, named: &Metadata) -> bool {
+    own.dev() == named.dev() && own.ino() == named.ino()
 }
 
 /// Takes the file for this run, cuts off what was half written, and answers what it holds.
@@ -97,12 +136,19 @@ fn take_line<R: BufRead>(
     Ok(true)
 }
 
-impl Write for Journal {
+impl Write for Journal<'_> {
     fn write(&mut self, bytes: &[u8]) -> io::Result<usize> {
         self.file.write(bytes)
     }
 
     fn flush(&mut self) -> io::Result<()> {
-        self.file.sync_data()
+        self.file.sync_data()?;
+        self.look()
+    }
+}
+
+impl Output for Journal<'_> {
+    fn keep_system(&mut self, system: &str) -> io::Result<()> {
+        self.system.write(system)
     }
 }

@@ -2,13 +2,13 @@
 
 use crate::fault::Fault;
 use crate::journal::Journal;
-use follower::{FollowFault, Kept, Options, Pauses, Subscription, resume};
+use crate::printout::Printout;
+use follower::{FollowFault, Kept, Options, Output, Pauses, Subscription, resume};
 use std::alloc::Global;
-use std::io::Write;
 use std::net::{Net, SocketAddr, TcpListener, TcpStream};
 use std::sync::Wait;
+use std::thread;
 use std::time::Duration;
-use std::{io, thread};
 
 /// For how many seconds a read waits. Then the server is asked whether it is there, and after as many more it is lost, as
 /// PostgreSQL's wal_receiver_timeout has it unless it is set.
@@ -21,7 +21,9 @@ pub fn keep_printing<N: Net<Listener = TcpListener, Stream = TcpStream> + Wait>(
     address: SocketAddr,
     options: &Options,
 ) -> Result<(), Fault> {
-    keep_following(rt, net, address, options, &Kept::new(), &mut io::writer(rt))
+    let mut subscription = Subscription::new(rt.alloc(), options);
+    let mut output = Printout::new(rt);
+    keep_following(rt, net, address, options, &mut subscription, &mut output)
 }
 
 /// Follows into a file, from where it ends. What it holds counts.
@@ -33,25 +35,14 @@ pub fn keep_in<N: Net<Listener = TcpListener, Stream = TcpStream> + Wait>(
     path: &str,
 ) -> Result<(), Fault> {
     let (mut journal, kept) = Journal::open(rt, rt.alloc(), path, options.form)?;
-    keep_following(rt, net, address, options, &kept, &mut journal)
+    let system = journal.system(&kept)?;
+    let mut subscription = Subscription::behind(rt.alloc(), options, &kept, system);
+    keep_following(rt, net, address, options, &mut subscription, &mut journal)
 }
 
-/// Goes on behind what the output holds, over one connection after the other, until all is printed. Each that was lost is told, with the pause behind it.
-fn keep_following<N: Net<Listener = TcpListener, Stream = TcpStream> + Wait, W: Write>(
-    rt: &HostRuntime,
-    net: &N,
-    address: SocketAddr,
-    options: &Options,
-    kept: &Kept,
-    output: &mut W,
-) -> Result<(), Fault> {
-    let mut subscription = Subscription::behind(rt.alloc(), options, kept);
-    let followed = follow_on(rt, net, address, options, &mut subscription, output);
-    drop(subscription);
-    followed
-}
-
-fn follow_on<N: Net<Listener = TcpListener, Stream = TcpStream> + Wait, W: Write>(
+/// Goes on behind what the output holds, over one connection after the other, until all is printed. Each that was lost is told, with
+/// the pause behind it.
+fn keep_following<N: Net<Listener = TcpListener, Stream = TcpStream> + Wait, W: Output>(
     rt: &HostRuntime,
     net: &N,
     address: SocketAddr,
@@ -76,7 +67,7 @@ fn follow_on<N: Net<Listener = TcpListener, Stream = TcpStream> + Wait, W: Write
     unreachable!()
 }
 
-fn follow_once<N: Net<Listener = TcpListener, Stream = TcpStream> + Wait, W: Write>(
+fn follow_once<N: Net<Listener = TcpListener, Stream = TcpStream> + Wait, W: Output>(
     net: &N,
     alloc: Global,
     address: SocketAddr,

@@ -6,6 +6,8 @@ mod command;
 mod fault;
 mod journal;
 mod keeping;
+mod printout;
+mod system_file;
 
 use command::{Words, words_of};
 use command_line::{address_of, arguments_of, count_of, ended};

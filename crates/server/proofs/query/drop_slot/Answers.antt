@@ -9,5 +9,6 @@ use Rattle.server.proofs.query.drop_slot.Goals as goal
 pub returns : goal.returns
 returns g c =
     let told = rw c.as_str.ensures.value at c.drop_slot-answer.ensures in
-    gave g.D.Desk.told (Runs c.args.database.now (Drop c.args.slot.now) false) (DropSlot c.args.slot.now c.drop_slot-answer.result ∷ []) (answer_to_drop c.drop_slot-answer.result) c.say_dropped.result
-    c.args.desk.now c.args.out.now.items c.drop_slot-answer.new.self c.say_dropped.new.out.items (c.drop_slot-answer.new.self, told, refl) (c.drop_slot-answer.result, refl, refl, refl) c.say_dropped.ensures
+    let says = rw c.as_str-2.ensures.value at c.say_dropped.ensures in
+    gave g.D.Desk.told (Runs c.args.database.now (Drop c.args.slot.now) false) (DropSlot c.args.slot.now c.drop_slot-answer.result ∷ []) (answer_to_drop c.args.slot.now c.drop_slot-answer.result) c.say_dropped.result
+    c.args.desk.now c.args.out.now.items c.drop_slot-answer.new.self c.say_dropped.new.out.items (c.drop_slot-answer.new.self, told, refl) (c.drop_slot-answer.result, refl, refl, refl) says

@@ -1,9 +1,7 @@
 use Rattle.std.proofs.Common.{[], refl}
-use Rattle.server.specs.declared.question.Question.TheVariants.{SearchPath, DirectoryMode, InitialCopy}
-use Rattle.server.specs.declared.refusal.Refusal.TheVariants as refusals
+use Rattle.server.specs.declared.question.Question.TheVariants.{SearchPath, DirectoryMode}
 use Rattle.server.specs.Answers.{path_set, mode_shown}
 use Rattle.server.specs.Conversation.{AnswersQuestion}
-use Rattle.server.specs.Said.{error_and_ready}
 use Rattle.server.proofs.Steps.{gave}
 use Rattle.server.proofs.replying.answer_question.Goals as goal
 
@@ -16,5 +14,4 @@ returns-in-DirectoryMode g c =
     rw c.in-DirectoryMode.is (gave g.D.Desk.told (AnswersQuestion DirectoryMode) [] mode_shown c.say_mode.result c.args.desk.now c.args.out.now.items c.args.desk.now c.say_mode.new.out.items refl (refl, refl) c.say_mode.ensures)
 
 pub returns-in-InitialCopy : goal.returns-in-InitialCopy
-returns-in-InitialCopy g c =
-    rw c.in-InitialCopy.is (gave g.D.Desk.told (AnswersQuestion InitialCopy) [] (error_and_ready refusals.InitialCopy) c.say_refused_ready.result c.args.desk.now c.args.out.now.items c.args.desk.now c.say_refused_ready.new.out.items refl (refl, refl) c.say_refused_ready.ensures)
+returns-in-InitialCopy g c = rw c.in-InitialCopy.is c.refuse_copy.ensures

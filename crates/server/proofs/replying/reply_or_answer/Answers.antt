@@ -3,7 +3,7 @@ use Rattle.std.proofs.lemmas.Result.{err_from_is_err_and}
 use Rattle.server.specs.declared.question.Question.{Question}
 use Rattle.server.specs.Questions.{SpellsQuestion}
 use Rattle.server.specs.declared.service.Dialect.TheVariants.{Questions}
-use Rattle.server.specs.Conversation.{AnswersQuestion, Replies, RepliesIn}
+use Rattle.server.specs.Conversation.{AnswersQuestion, Replies, RepliesIn, why_of}
 use Rattle.server.proofs.Steps.{answered_as, tried_as}
 use Rattle.server.proofs.replying.reply_or_answer.Goals as goal
 
@@ -21,5 +21,5 @@ returns-in_err-answer_question-in-Some g c =
 pub returns-in-None : goal.returns-in-None
 returns-in-None g c =
     let none : (question : Question) → SpellsQuestion c.args.query.now question → ⊥ = search rules in
-    answered_as g.D.Desk.told c.reply.result (λ begun. Replies c.args.database.now c.args.query.now begun) (λ begun. RepliesIn Questions c.args.database.now c.args.query.now begun) c.args.desk.now c.args.out.now.items c.reply.new.desk c.reply.new.out.items
+    answered_as g.D.Desk.told c.reply.result (λ begun. Replies (why_of false) c.args.database.now c.args.query.now begun) (λ begun. RepliesIn Questions c.args.database.now c.args.query.now begun) c.args.desk.now c.args.out.now.items c.reply.new.desk c.reply.new.out.items
     (λ begun calls text fact. inr (none, fact)) c.reply.ensures

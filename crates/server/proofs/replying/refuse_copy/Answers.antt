@@ -1,0 +1,11 @@
+use Rattle.std.proofs.Common.{[], refl}
+use Rattle.server.specs.declared.question.Question.TheVariants.{InitialCopy}
+use Rattle.server.specs.declared.refusal.Refusal.TheVariants as refusals
+use Rattle.server.specs.Conversation.{AnswersQuestion}
+use Rattle.server.specs.Said.{error_and_ready}
+use Rattle.server.proofs.Steps.{gave}
+use Rattle.server.proofs.replying.refuse_copy.Goals as goal
+
+pub returns : goal.returns
+returns g c =
+    gave g.D.Desk.told (AnswersQuestion InitialCopy) [] (error_and_ready refusals.InitialCopy) c.say_refused_ready.result c.args.desk.now c.args.out.now.items c.args.desk.now c.say_refused_ready.new.out.items refl (refl, refl) c.say_refused_ready.ensures

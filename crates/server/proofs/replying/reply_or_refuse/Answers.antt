@@ -1,0 +1,10 @@
+use Rattle.std.proofs.Common.{refl}
+use Rattle.server.specs.Conversation.{Replies, RepliesIn, why_of}
+use Rattle.server.specs.declared.service.Dialect.TheVariants.{Commands}
+use Rattle.server.proofs.Steps.{answered_as}
+use Rattle.server.proofs.replying.reply_or_refuse.Goals as goal
+
+pub returns : goal.returns
+returns g c =
+    answered_as g.D.Desk.told c.reply.result (λ begun. Replies (why_of c.in_ok-is_question.is_question) c.args.database.now c.args.query.now begun) (λ begun. RepliesIn Commands c.args.database.now c.args.query.now begun) c.args.desk.now c.args.out.now.items c.reply.new.desk c.reply.new.out.items
+    (λ begun calls text fact. (c.in_ok-is_question.is_question, c.in_ok-is_question.ensures, fact)) c.reply.ensures
