@@ -13,7 +13,7 @@ from cluster import Cluster, is_installed
 from driven import HERE, Driven
 from with_subscription import comes
 
-REASON = "start is ahead of what the slot has sent"
+REASON = "all that its slot has sent: the publisher began anew"
 ROWS = 8
 
 

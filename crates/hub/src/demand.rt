@@ -128,8 +128,11 @@ impl Demand {
 
     /// The transaction that an xid is of: itself, unless it is known under another.
     fn top_of(&self, xid: u32) -> u32 {
-        match self.place_of(xid) {
-            Some(place) => self.filled[place].top,
+        let Some(place) = self.place_of(xid) else {
+            return xid;
+        };
+        match self.filled.get(place) {
+            Some(filled) => filled.top,
             None => xid,
         }
     }

@@ -9,7 +9,7 @@ use crate::starting::HubStart;
 use crate::streaming::Stream;
 use commons::Commons;
 use connections::{Line, SlotPost};
-use server::DeskFault;
+use server::{DeskFault, StartAhead};
 use shared_log::LogName;
 use slots::SlotName;
 use std::alloc::AllocFailed;
@@ -22,27 +22,35 @@ pub(crate) fn begin_stream<L: LogName + SlotName, R: Wait>(
     start: &mut HubStart<'_, L, R>,
 ) -> Result<Box<Stream<L>>, DeskFault> {
     match begin(start) {
-        Ok(grant) if is_ahead(start, &grant) => {
-            take_back(start.rt, start.commons, grant);
-            Err(DeskFault::StartAhead)
-        }
-        Ok(grant) => opened(start.rt, start.commons, grant),
+        Ok(grant) => match ahead_of(start, &grant) {
+            Some(ahead) => {
+                take_back(start.rt, start.commons, grant);
+                Err(DeskFault::StartAhead(ahead))
+            }
+            None => opened(start.rt, start.commons, grant),
+        },
         Err(fault) => Err(of_start(fault)),
     }
 }
 
 /// Whether a stream would start ahead of all that its slot has confirmed and sent. Its last stream has told how far it came, since that
 /// let the slot go.
-fn is_ahead<L: LogName + SlotName, R: Wait>(
+fn ahead_of<L: LogName + SlotName, R: Wait>(
     start: &HubStart<'_, L, R>,
     grant: &StreamGrant<L>,
-) -> bool {
+) -> Option<StartAhead> {
     if start.commons.settings.allows_start_ahead {
-        return false;
+        return None;
     }
-    match start.commons.post_at(Some(grant.hold.place())) {
-        Some(post) => post.reached(start.rt) < start.position,
-        None => false,
+    let post = start.commons.post_at(Some(grant.hold.place()))?;
+    let ahead = StartAhead {
+        start: start.position,
+        reached: post.reached(start.rt),
+    };
+    if ahead.reached < ahead.start {
+        Some(ahead)
+    } else {
+        None
     }
 }
 

@@ -1,9 +1,11 @@
 -- What an ErrorResponse says of each cause (PostgreSQL 15, appendix A): the code, and the text.
 use Rattle.std.specs.Prelude.{ℕ, List, ◌++◌, length, nat_le, codes, if◌then◌else◌}
 use Rattle.replcmd.specs.declared.words.TheConstants.{MOST_SLOT_NAME_BYTES}
+use Rattle.replcmd.specs.Position.{position_text}
 use Rattle.replcmd.specs.declared.fault.CmdFault.{CmdFault}
 use Rattle.replcmd.specs.declared.fault.CmdFault.TheVariants as commands
 use Rattle.server.specs.declared.desk_fault.DeskFault.{DeskFault}
+use Rattle.server.specs.declared.desk_fault.StartAhead.{StartAhead}
 use Rattle.server.specs.declared.desk_fault.DeskFault.TheVariants as desks
 use Rattle.server.specs.declared.refusal.Refusal.{Refusal}
 use Rattle.server.specs.declared.refusal.Refusal.TheVariants.{Violation, Version, NoReplication, InitialCopy, Command, Question, Asked}
@@ -32,7 +34,7 @@ desk_code desks.NoSlotPlace = codes "53400"
 desk_code desks.UnknownPublication = codes "42704"
 desk_code desks.ListConflict = codes "0A000"
 desk_code desks.NoReader = codes "53400"
-desk_code desks.StartAhead = codes "55000"
+desk_code (desks.StartAhead ahead) = codes "55000"
 desk_code desks.Memory = codes "53200"
 
 abbrev pub desk_text : DeskFault → List ℕ
@@ -43,7 +45,7 @@ desk_text desks.NoSlotPlace = codes "no slot place is left"
 desk_text desks.UnknownPublication = codes "publication does not exist"
 desk_text desks.ListConflict = codes "different column lists"
 desk_text desks.NoReader = codes "too many senders"
-desk_text desks.StartAhead = codes "start is ahead of what the slot has sent"
+desk_text (desks.StartAhead ahead) = codes "start is ahead of what the slot has sent"
 desk_text desks.Memory = codes "out of memory"
 
 abbrev pub refusal_code : Refusal → List ℕ
@@ -68,11 +70,16 @@ refusal_text (Asked fault) = desk_text fault
 abbrev pub named_slot : List ℕ → List ℕ → List ℕ
 named_slot slot state = codes "replication slot \"" ++ slot ++ codes "\" " ++ state
 
+-- where a stream would start, and what its slot has sent: positions begin anew with the publisher
+abbrev pub ahead_text : StartAhead → List ℕ
+ahead_text ahead = codes "start " ++ position_text ahead.start ++ codes " is ahead of " ++ position_text ahead.reached ++ codes ", all that its slot has sent: the publisher began anew"
+
 -- the text of a fault of this slot; a name that no slot may have, since it is too long, isn't repeated
 abbrev pub state_text : DeskFault → List ℕ → List ℕ
 state_text desks.SlotMissing slot = named_slot slot (codes "does not exist")
 state_text desks.SlotInUse slot = named_slot slot (codes "is active")
 state_text desks.SlotExists slot = named_slot slot (codes "already exists")
+state_text (desks.StartAhead ahead) slot = ahead_text ahead
 state_text fault slot = desk_text fault
 
 abbrev pub slot_text : DeskFault → List ℕ → List ℕ

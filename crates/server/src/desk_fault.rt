@@ -14,8 +14,15 @@ pub enum DeskFault {
     ListConflict,
     NoReader,
     /// A stream would start ahead of all that its slot has confirmed and sent.
-    StartAhead,
+    StartAhead(StartAhead),
     Memory,
+}
+
+/// Where a stream would start, and up to where its slot has confirmed or sent anything.
+#[derive(Clone, Copy, Debug, PartialEq, Eq)]
+pub struct StartAhead {
+    pub start: u64,
+    pub reached: u64,
 }
 
 impl fmt::Display for DeskFault {
@@ -28,7 +35,7 @@ impl fmt::Display for DeskFault {
             DeskFault::UnknownPublication => "P1: the publication does not exist",
             DeskFault::ListConflict => "P2: different column lists",
             DeskFault::NoReader => "L6: no reader is free",
-            DeskFault::StartAhead => "L7: the start is ahead of all that the slot has sent",
+            DeskFault::StartAhead(_) => "L7: the start is ahead of all that the slot has sent",
             DeskFault::Memory => "out of memory",
         })
     }

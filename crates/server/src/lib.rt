@@ -29,7 +29,7 @@ mod turn;
 pub use connection::{Connection, Phase};
 pub use conversation::{Event, converse};
 pub use desk::Desk;
-pub use desk_fault::DeskFault;
+pub use desk_fault::{DeskFault, StartAhead};
 pub use fault::ConnFault;
 pub use question::{Question, no_text_asks_two_questions, question_of};
 pub use refusal::Refusal;

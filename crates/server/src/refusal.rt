@@ -59,7 +59,7 @@ impl Refusal {
             }
             Refusal::Asked(DeskFault::ListConflict) => ("0A000", "different column lists"),
             Refusal::Asked(DeskFault::NoReader) => ("53400", "too many senders"),
-            Refusal::Asked(DeskFault::StartAhead) => (
+            Refusal::Asked(DeskFault::StartAhead(_)) => (
                 "55000",
                 "start is ahead of what the slot has sent",
             ),

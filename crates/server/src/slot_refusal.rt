@@ -2,14 +2,15 @@
 
 ghost use Rattle.std.specs.Prelude.{◌≡◌, ◌≤◌, length, string_bytes, IfOk};
 ghost use Rattle.pqformat.specs.Putting.{Puts};
-ghost use Rattle.server.specs.Refusals.{desk_text, named_slot, slot_text};
+ghost use Rattle.replcmd.specs.Position.{position_text};
+ghost use Rattle.server.specs.Refusals.{ahead_text, desk_text, named_slot, slot_text};
 ghost use Rattle.server.specs.Said.{slot_refused};
 
-use crate::desk_fault::DeskFault;
+use crate::desk_fault::{DeskFault, StartAhead};
 use crate::refusal::Refusal;
 use crate::say::{say_error, say_ready};
 use bytes::BytesMut;
-use replcmd::MOST_SLOT_NAME_BYTES;
+use replcmd::{MOST_SLOT_NAME_BYTES, write_position};
 use std::alloc::{AllocError, Global};
 
 /// That what was asked of this slot is refused, and that the next command is waited for.
@@ -43,6 +44,9 @@ fn slot_text(alloc: Global, fault: DeskFault, slot: &str) -> Result<String, Allo
         DeskFault::SlotExists if slot.len() <= MOST_SLOT_NAME_BYTES => {
             named_slot(alloc, slot, "already exists")
         }
+        DeskFault::StartAhead(ahead) if slot.len() <= MOST_SLOT_NAME_BYTES => {
+            start_ahead(alloc, ahead)
+        }
         _ => plain(alloc, fault),
     }
 }
@@ -54,6 +58,27 @@ fn plain(alloc: Global, fault: DeskFault) -> Result<String, AllocError>
 {
     let (_code, text) = Refusal::Asked(fault).told();
     String::from_str(alloc, text)
+}
+
+fn start_ahead(alloc: Global, ahead: StartAhead) -> Result<String, AllocError>
+    ensures text { IfOk result (λ t. string_bytes t ≡ ahead_text ahead) }
+    ensures short { IfOk result (λ t. length (string_bytes t) ≤ 120) }
+{
+    let start = position(alloc, ahead.start)?;
+    let reached = position(alloc, ahead.reached)?;
+    let mut text = String::from_str(alloc, "start ")?;
+    text.push_str(start.as_str())?;
+    text.push_str(" is ahead of ")?;
+    text.push_str(reached.as_str())?;
+    text.push_str(", all that its slot has sent: the publisher began anew")?;
+    Ok(text)
+}
+
+fn position(alloc: Global, position: u64) -> Result<String, AllocError>
+    ensures text { IfOk result (λ t. string_bytes t ≡ position_text position) }
+    ensures short { IfOk result (λ t. length (string_bytes t) ≤ 17) }
+{
+    write_position(alloc, position)
 }
 
 fn named_slot(alloc: Global, slot: &str, state: &str) -> Result<String, AllocError>
