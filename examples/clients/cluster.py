@@ -17,7 +17,7 @@ wal_retrieve_retry_interval = 100ms
 max_logical_replication_workers = 8
 log_min_messages = warning
 """
-SECONDS = 60
+SECONDS = 300
 
 
 def is_installed():
@@ -46,6 +46,13 @@ class Cluster:
         self.log = pathlib.Path(self.folder) / "log"
         if self.user:
             shutil.chown(self.folder, self.user)
+        try:
+            self.begin()
+        except BaseException:
+            self.__exit__()
+            raise
+
+    def begin(self):
         self.run("initdb", "-A", "trust", "-U", "me", "-N", "-D", f"{self.folder}/data")
         with open(f"{self.folder}/data/postgresql.conf", "a") as settings:
             settings.write(f"{SETTINGS}port = {self.port}\nunix_socket_directories = '{self.folder}'\n")
@@ -55,7 +62,11 @@ class Cluster:
         return self
 
     def __exit__(self, *raised):
-        self.control("stop", "-m", "immediate")
+        # It may not run, where it was ended before it had begun.
+        try:
+            self.control("stop", "-m", "immediate")
+        except subprocess.CalledProcessError:
+            pass
         shutil.rmtree(self.folder, ignore_errors=True)
 
     def run(self, program, *words):

@@ -3,14 +3,15 @@ import pathlib
 import subprocess
 
 HERE = pathlib.Path(__file__).resolve().parent
-SECONDS = "300"
+# How long it may take to end.
+SECONDS = 60
 
 
 class Driven:
     """It serves any number of connections, and answers PostgreSQL's own clients."""
 
     def __init__(self, pubd, port=0, configuration=HERE / "server.toml"):
-        words = ["timeout", SECONDS, pubd, "--answer-postgresql", configuration, f"127.0.0.1:{port}", "forever", "-"]
+        words = [pubd, "--answer-postgresql", configuration, f"127.0.0.1:{port}", "forever", "-"]
         self.process = subprocess.Popen(words, stdin=subprocess.PIPE, stdout=subprocess.PIPE, stderr=subprocess.PIPE, text=True)
         self.port = int(self.process.stdout.readline().rpartition(":")[2])
 
@@ -18,8 +19,7 @@ class Driven:
         return self
 
     def __exit__(self, *raised):
-        # timeout passes it on.
-        self.process.terminate()
+        self.process.kill()
         self.process.wait()
         for stream in (self.process.stdin, self.process.stdout, self.process.stderr):
             stream.close()
@@ -44,7 +44,7 @@ class Driven:
         self.process.stdin.write("end\n")
         self.process.stdin.close()
         try:
-            status = self.process.wait(timeout=30)
+            status = self.process.wait(timeout=SECONDS)
         except subprocess.TimeoutExpired:
             return ["pubd does not end"]
         return [f"pubd ended with status {status}"] * bool(status)

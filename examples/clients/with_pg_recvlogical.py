@@ -11,8 +11,9 @@ import tempfile
 import time
 
 from driven import Driven
+from groups import end_by_signals
 
-SECONDS = 30
+SECONDS = 300
 RELATION = (
     "52 00004000 7075626c696300 6974656d00 64 0003 01 696400 00000017 ffffffff"
     "00 6e616d6500 00000019 ffffffff 00 71747900 00000014 ffffffff"
@@ -77,6 +78,7 @@ def followed(server, folder):
 
 
 def main():
+    end_by_signals()
     if not shutil.which("pg_recvlogical"):
         print("left out, for want of pg_recvlogical")
         return

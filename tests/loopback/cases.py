@@ -67,6 +67,7 @@ from systems import (
     a_start_that_lies_ahead_ends_it,
     a_system_is_chosen_at_each_start,
     an_output_that_is_taken_away_ends_it,
+    an_output_that_takes_nothing_for_now_is_written_again,
     another_system_is_refused_by_an_output,
     another_system_is_refused_within_a_run,
 )
@@ -403,5 +404,6 @@ ALL = [
     a_start_that_lies_ahead_ends_it,
     a_system_is_chosen_at_each_start,
     an_output_that_is_taken_away_ends_it,
+    an_output_that_takes_nothing_for_now_is_written_again,
     a_follower_that_is_stopped_goes_on,
 ]

@@ -1,5 +1,6 @@
 """What subcat --follow does where another server stands in the place of its own, where its output is taken away, and where it is
 stopped for a while. Each case answers what is wrong, a line each."""
+import os
 import pathlib
 import signal
 import socket
@@ -181,3 +182,23 @@ def a_follower_that_is_stopped_goes_on(pubd, subcat):
         following.process.kill()
         said = following.process.communicate()[1]
     return wrong + [f"it says {said!r}"] * (said != "")
+
+
+def an_output_that_takes_nothing_for_now_is_written_again(pubd, subcat):
+    """A pipe whose writes don't wait, and that is read late."""
+    count, wrong = 1500, []
+    for more in [], ["--follow"]:
+        with Server(pubd, 2, inserts(count), awaited=1) as server:
+            reading, writing = os.pipe()
+            os.set_blocking(writing, False)
+            words = [subcat, "--create", *more, f"127.0.0.1:{server.port}", "s", "0/0", "p", str(count)]
+            follower = subprocess.Popen(words, stdout=writing, stderr=subprocess.PIPE, text=True)
+            os.close(writing)
+            time.sleep(0.3)
+            with os.fdopen(reading) as pipe:
+                printed = pipe.read()
+            said = follower.communicate(timeout=60)[1]
+            server.process.kill()
+        wrong += [f"{more} ends with {follower.returncode}, and says {said!r}"] * bool(follower.returncode or said)
+        wrong += [f"{more} prints something else"] * (printed != printed_of_inserts(count))
+    return wrong

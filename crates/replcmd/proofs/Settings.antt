@@ -1,6 +1,7 @@
 -- That an option is read as it is spelled, and that what is gathered of the options is what they come to.
 use Rattle.std.proofs.Common.{◌≡◌, ◌≢◌, ℕ, ◌+◌, Bool, true, false, cond, List, [], ◌∷◌, ◌++◌, Option, Some, None, Ok, Err, refl, sym, ap, subst, ◌∙◌, arith}
-use Rattle.std.specs.Prelude.{codes, count_by}
+use Rattle.std.specs.Prelude.{codes, count_by, nat_lt, ◌≤◌, ◌||◌}
+use Rattle.std.proofs.lemmas.Bool.{ltb-false, le-ltb}
 use Rattle.std.specs.Option.{ok_or, option_to_list}
 use Rattle.std.specs.List.{filter_map}
 use Rattle.std.specs.Str.{bytes_eq}
@@ -9,10 +10,13 @@ use Rattle.replcmd.specs.declared.fault.CmdFault.TheVariants.{BadOption}
 use Rattle.replcmd.specs.declared.token.Token.{Token}
 use Rattle.replcmd.specs.declared.token.Token.TheVariants.{Value}
 use Rattle.replcmd.specs.declared.setting.Setting.{Setting}
-use Rattle.replcmd.specs.declared.setting.Setting.TheVariants.{Version, Publications, Messages}
+use Rattle.replcmd.specs.declared.setting.Setting.TheVariants.{Version, Publications, Messages, Declined}
+use Rattle.replcmd.specs.declared.setting.Unserved.{Unserved}
+use Rattle.replcmd.specs.declared.setting.Unserved.TheVariants.{Binary, Streaming, TwoPhase}
 use Rattle.replcmd.specs.declared.setting.StreamOptions.{StreamOptions}
 use Rattle.replcmd.specs.Reading.{◌>>=◌, name_at, value_at, names_of, truth_of}
-use Rattle.replcmd.specs.Settings.{AreSettings, ComesTo, IsValue, is_version, messages_at, messages_of, option_name, options_of_settings, publications_at, publications_of, setting_at, stream_options, told_options, version_at}
+use Rattle.replcmd.specs.Settings.{AreSettings, ComesTo, IsValue, declined_at, declines, declines_twice, is_version, messages_at, messages_of, option_name, options_of_settings, publications_at, publications_of, setting_at, stream_options, told_options, unserved_at, unserved_name, unserved_of, version_at}
+use Rattle.replcmd.specs.Words.{is_truth}
 use Rattle.replcmd.proofs.Lists.{found, same_found, bind_ok}
 use Rattle.replcmd.proofs.PublicationNames.{names_take, names_again}
 use Rattle.replcmd.proofs.Truths.{truth_take, truth_again}
@@ -58,11 +62,40 @@ messages_told ts s rest e =
         let same = same_found (Messages on) mid s rest e in
         (v, on, front ∙ ap (λ (l : List Token). Value v ∷ l) same.1, sym same.0, is)
 
+declined_told : (option : Unserved) (ts : List Token) (s : Setting) (rest : List Token) → declined_at option ts ≡ found s rest
+    → (v : List ℕ) × (ts ≡ Value v ∷ rest) × (s ≡ Declined option) × (is_truth false v ≡ true)
+declined_told option ts s rest e =
+    let a = bind_ok (value_at ts) (λ value. cond (is_truth false value.0) (Ok (Declined option, value.1)) (Err BadOption)) (s, rest) e in
+    by_test a.0.0 a.0.1 (value_follows ts a.0.0 a.0.1 a.1) (is_truth false a.0.0) refl a.2
+  where
+    by_test : (v : List ℕ) (mid : List Token) → ts ≡ Value v ∷ mid → (t : Bool) → is_truth false v ≡ t → cond t (found (Declined option) mid) (Err BadOption) ≡ found s rest
+        → (v : List ℕ) × (ts ≡ Value v ∷ rest) × (s ≡ Declined option) × (is_truth false v ≡ true)
+    by_test v mid front true is e =
+        let same = same_found (Declined option) mid s rest e in
+        (v, front ∙ ap (λ (l : List Token). Value v ∷ l) same.1, sym same.0, is)
+    by_test v mid front false is e = absurd cc
+
+unserved_told : (n : List ℕ) (ts : List Token) (s : Setting) (rest : List Token) → unserved_at (unserved_of n) ts ≡ found s rest
+    → (option : Unserved) × (v : List ℕ) × (n ≡ unserved_name option) × (ts ≡ Value v ∷ rest) × (s ≡ Declined option) × (is_truth false v ≡ true)
+unserved_told n ts s rest e = by_name (bytes_eq n (codes "binary")) refl (bytes_eq n (codes "streaming")) refl (bytes_eq n (codes "two_phase")) refl e
+  where
+    so : (option : Unserved) → n ≡ unserved_name option → declined_at option ts ≡ found s rest
+        → (option : Unserved) × (v : List ℕ) × (n ≡ unserved_name option) × (ts ≡ Value v ∷ rest) × (s ≡ Declined option) × (is_truth false v ≡ true)
+    so option is e = let told = declined_told option ts s rest e in (option, told.0, is, told.1, told.2, told.3)
+
+    by_name : (t : Bool) → bytes_eq n (codes "binary") ≡ t → (u : Bool) → bytes_eq n (codes "streaming") ≡ u → (w : Bool) → bytes_eq n (codes "two_phase") ≡ w
+        → unserved_at (cond t (Some Binary) (cond u (Some Streaming) (cond w (Some TwoPhase) None))) ts ≡ found s rest
+        → (option : Unserved) × (v : List ℕ) × (n ≡ unserved_name option) × (ts ≡ Value v ∷ rest) × (s ≡ Declined option) × (is_truth false v ≡ true)
+    by_name true is u other w last e = so Binary (bytes_same n (codes "binary") is) e
+    by_name false is true other w last e = so Streaming (bytes_same n (codes "streaming") other) e
+    by_name false is false other true last e = so TwoPhase (bytes_same n (codes "two_phase") last) e
+    by_name false is false other false last e = absurd cc
+
 pub setting_told : (ts : List Token) (s : Setting) (rest : List Token) → setting_at ts ≡ found s rest → Told ts s rest
 unfolding setting_at
 setting_told ts s rest e =
     let a = bind_ok (name_at ts) (λ name. cond (bytes_eq name.0 (codes "proto_version")) (version_at name.1) (cond (bytes_eq name.0 (codes "publication_names")) (publications_at name.1)
-    (cond (bytes_eq name.0 (codes "messages")) (messages_at name.1) (Err BadOption)))) (s, rest) e in
+    (cond (bytes_eq name.0 (codes "messages")) (messages_at name.1) (unserved_at (unserved_of name.0) name.1)))) (s, rest) e in
     by_name a.0.0 a.0.1 a.1 (bytes_eq a.0.0 (codes "proto_version")) refl (bytes_eq a.0.0 (codes "publication_names")) refl (bytes_eq a.0.0 (codes "messages")) refl a.2
   where
     -- an option of this name, whose value stands behind it and says so
@@ -77,7 +110,7 @@ setting_told ts s rest e =
 
     by_name : (n : List ℕ) (mid : List Token) → name_at ts ≡ found n mid → (t : Bool) → bytes_eq n (codes "proto_version") ≡ t → (u : Bool) → bytes_eq n (codes "publication_names") ≡ u
         → (w : Bool) → bytes_eq n (codes "messages") ≡ w
-        → cond t (version_at mid) (cond u (publications_at mid) (cond w (messages_at mid) (Err BadOption))) ≡ found s rest → Told ts s rest
+        → cond t (version_at mid) (cond u (publications_at mid) (cond w (messages_at mid) (unserved_at (unserved_of n) mid))) ≡ found s rest → Told ts s rest
     by_name n mid read true is u other w last e = let v = version_told mid s rest e in so n mid read Version (bytes_same n (codes "proto_version") is) v.2 v.0 v.1 v.3
     by_name n mid read false is true other w last e =
         let v = publications_told mid s rest e in
@@ -85,13 +118,18 @@ setting_told ts s rest e =
     by_name n mid read false is false other true last e =
         let v = messages_told mid s rest e in
         so n mid read (Messages v.1) (bytes_same n (codes "messages") last) v.3 v.0 v.2 (truth_take v.0 v.1 v.4)
-    by_name n mid read false is false other false last e = absurd cc
+    by_name n mid read false is false other false last e =
+        let v = unserved_told n mid s rest e in
+        so n mid read (Declined v.0) v.2 v.4 v.1 v.3 v.5
 
 pub setting_reads : (ts : List Token) (s : Setting) (v : List ℕ) (rest : List Token) → name_at ts ≡ found (option_name s) (Value v ∷ rest) → IsValue s v → setting_at ts ≡ found s rest
 unfolding setting_at
 setting_reads ts Version v rest name says = rw (name, same_bytes v (codes "1") says) refl
 setting_reads ts (Publications names) v rest name says = rw (name, names_again v names says) refl
 setting_reads ts (Messages on) v rest name says = rw (name, truth_again v on says) refl
+setting_reads ts (Declined Binary) v rest name says = rw (name, says) refl
+setting_reads ts (Declined Streaming) v rest name says = rw (name, says) refl
+setting_reads ts (Declined TwoPhase) v rest name says = rw (name, says) refl
 
 -- ---- all of them
 
@@ -142,6 +180,9 @@ come_to version names (Some m) (Messages on ∷ settings) options e = absurd cc
 come_to version names None (Messages on ∷ settings) options e =
     let come = come_to version names (Some on) settings options e in
     record { version = let count = come.version in omega (arith, counted (Messages on) settings); names = come.names; messages = come.messages }
+come_to version names messages (Declined option ∷ settings) options e =
+    let come = come_to version names messages settings options e in
+    record { version = let count = come.version in omega (arith, counted (Declined option) settings); names = come.names; messages = come.messages }
 
 to_come : (version : Bool) (names : Option (List (List ℕ))) (messages : Option Bool) (settings : List Setting) (options : StreamOptions) → Come version names messages settings options
     → options_of_settings version names messages settings ≡ Ok options
@@ -157,15 +198,52 @@ to_come version names (Some m) (Messages on ∷ settings) options come = absurd 
 to_come version names None (Messages on ∷ settings) options come =
     to_come version names (Some on) settings options
     (record { version = let count = come.version in omega (arith, counted (Messages on) settings); names = come.names; messages = come.messages })
+to_come version names messages (Declined option ∷ settings) options come =
+    to_come version names messages settings options
+    (record { version = let count = come.version in omega (arith, counted (Declined option) settings); names = come.names; messages = come.messages })
+
+-- ---- what isn't served, once at most
+
+neither : (a b : Bool) → (a || b) ≡ false → (a ≡ false) × (b ≡ false)
+neither false b e = (refl, e)
+neither true b e = absurd cc
+
+not_either : (a b : Bool) → a ≡ false → b ≡ false → (a || b) ≡ false
+not_either false b none other = other
+not_either true b none other = absurd cc
+
+abbrev twice : Unserved → List Setting → Bool
+twice option settings = nat_lt 1 (count_by (declines option) settings)
+
+declined_once : (settings : List Setting) → declines_twice settings ≡ false → (option : Unserved) → count_by (declines option) settings ≤ 1
+declined_once settings e option =
+    let first = neither (twice Binary settings) (twice Streaming settings || twice TwoPhase settings) e in
+    let second = neither (twice Streaming settings) (twice TwoPhase settings) first.1 in
+    by_option option first.0 second.0 second.1
+  where
+    by_option : (option : Unserved) → twice Binary settings ≡ false → twice Streaming settings ≡ false → twice TwoPhase settings ≡ false → count_by (declines option) settings ≤ 1
+    by_option Binary a b c = ltb-false 1 (count_by (declines Binary) settings) a
+    by_option Streaming a b c = ltb-false 1 (count_by (declines Streaming) settings) b
+    by_option TwoPhase a b c = ltb-false 1 (count_by (declines TwoPhase) settings) c
+
+once_declined : (settings : List Setting) → ((option : Unserved) → count_by (declines option) settings ≤ 1) → declines_twice settings ≡ false
+once_declined settings once =
+    not_either (twice Binary settings) (twice Streaming settings || twice TwoPhase settings) (le-ltb 1 (count_by (declines Binary) settings) (once Binary))
+    (not_either (twice Streaming settings) (twice TwoPhase settings) (le-ltb 1 (count_by (declines Streaming) settings) (once Streaming)) (le-ltb 1 (count_by (declines TwoPhase) settings) (once TwoPhase)))
 
 pub settings_gathered : (settings : List Setting) (options : StreamOptions) → told_options settings ≡ Ok options → AreSettings settings options
-settings_gathered settings options e =
-    let come = come_to false None None settings options e in
-    record { version = let count = come.version in omega arith; names = come.names; messages = come.messages }
+settings_gathered settings options e = by_twice (declines_twice settings) refl e
+  where
+    by_twice : (t : Bool) → declines_twice settings ≡ t → cond t (Err BadOption) (options_of_settings false None None settings) ≡ Ok options → AreSettings settings options
+    by_twice true is e = absurd cc
+    by_twice false is e =
+        let come = come_to false None None settings options e in
+        record { version = let count = come.version in omega arith; names = come.names; messages = come.messages; declined = declined_once settings is }
 
 pub gathered_settings : (settings : List Setting) (options : StreamOptions) → AreSettings settings options → told_options settings ≡ Ok options
 gathered_settings settings options are =
-    to_come false None None settings options (record { version = let count = are.version in omega arith; names = are.names; messages = are.messages })
+    let come : Come false None None settings options = record { version = let count = are.version in omega arith; names = are.names; messages = are.messages } in
+    rw (once_declined settings are.declined) (to_come false None None settings options come)
 
 pub some_settings : (settings : List Setting) (options : StreamOptions) → AreSettings settings options → settings ≢ []
 some_settings settings options are = λ is. absurd (let none : count_by is_version settings ≡ 0 = ap (count_by is_version) is in let one = are.version in omega arith)

@@ -1,6 +1,6 @@
 -- The options of START_REPLICATION (PostgreSQL 15, 55.4 and 55.5): the name of each, the values that say it, how it is read, and what all
 -- of them come to. A further option is a line in most of these.
-use Rattle.std.specs.Prelude.{◌≡◌, ℕ, List, [], ◌∷◌, Option, Some, None, Result, Ok, Err, Bool, true, false, count_by, if◌then◌else◌, codes}
+use Rattle.std.specs.Prelude.{◌≡◌, ◌≤◌, ◌||◌, nat_lt, ℕ, List, [], ◌∷◌, Option, Some, None, Result, Ok, Err, Bool, true, false, count_by, if◌then◌else◌, codes}
 use Rattle.std.specs.List.{filter_map}
 use Rattle.std.specs.Option.{ok_or, unwrap_or, is_some}
 use Rattle.std.specs.Str.{bytes_eq}
@@ -8,22 +8,32 @@ use Rattle.replcmd.specs.declared.fault.CmdFault.{CmdFault}
 use Rattle.replcmd.specs.declared.fault.CmdFault.TheVariants.{BadOption}
 use Rattle.replcmd.specs.declared.token.Token.{Token}
 use Rattle.replcmd.specs.declared.setting.Setting.{Setting}
-use Rattle.replcmd.specs.declared.setting.Setting.TheVariants.{Version, Publications, Messages}
+use Rattle.replcmd.specs.declared.setting.Setting.TheVariants.{Version, Publications, Messages, Declined}
+use Rattle.replcmd.specs.declared.setting.Unserved.{Unserved}
+use Rattle.replcmd.specs.declared.setting.Unserved.TheVariants.{Binary, Streaming, TwoPhase}
 use Rattle.replcmd.specs.declared.setting.StreamOptions.{StreamOptions}
 use Rattle.replcmd.specs.Publications.{SpellsNames}
 use Rattle.replcmd.specs.Reading.{◌>>=◌, name_at, value_at, names_of, truth_of}
 use Rattle.replcmd.specs.Words.{is_truth}
+
+-- what isn't served
+abbrev pub unserved_name : Unserved → List ℕ
+unserved_name Binary = codes "binary"
+unserved_name Streaming = codes "streaming"
+unserved_name TwoPhase = codes "two_phase"
 
 -- the name of an option, and the values that say so
 abbrev pub option_name : Setting → List ℕ
 option_name Version = codes "proto_version"
 option_name (Publications names) = codes "publication_names"
 option_name (Messages on) = codes "messages"
+option_name (Declined option) = unserved_name option
 
 abbrev pub IsValue : Setting → List ℕ → Type 0
 IsValue Version value = value ≡ codes "1"
 IsValue (Publications names) value = SpellsNames value names
 IsValue (Messages on) value = is_truth on value ≡ true
+IsValue (Declined option) value = is_truth false value ≡ true
 
 -- ---- what they come to
 
@@ -39,17 +49,24 @@ abbrev pub messages_of : Setting → Option Bool
 messages_of (Messages on) = Some on
 messages_of _ = None
 
+abbrev pub declines : Unserved → Setting → Bool
+declines Binary (Declined Binary) = true
+declines Streaming (Declined Streaming) = true
+declines TwoPhase (Declined TwoPhase) = true
+declines option setting = false
+
 -- what is said of messages, once at most, comes to this: to false where nothing is said
 abbrev pub ComesTo : List Bool → Bool → Type 0
 ComesTo [] on = on ≡ false
 ComesTo (said ∷ []) on = on ≡ said
 ComesTo (said ∷ again ∷ more) on = ⊥
 
--- In any order: the version and the publications once, messages once at most, and nothing else.
+-- In any order: the version and the publications once, messages and what is declined once at most, and nothing else.
 pub record AreSettings (settings : List Setting) (options : StreamOptions) : Type 0 where
   pub version : count_by is_version settings ≡ 1
   pub names : filter_map publications_of settings ≡ options.publications ∷ []
   pub messages : ComesTo (filter_map messages_of settings) options.messages
+  pub declined : (option : Unserved) → count_by (declines option) settings ≤ 1
 
 -- ---- reading
 
@@ -62,12 +79,23 @@ publications_at tokens = value_at tokens >>= λ value. names_of value.0 >>= λ n
 abbrev pub messages_at : List Token → Result (Setting × List Token) CmdFault
 messages_at tokens = value_at tokens >>= λ value. ok_or (truth_of value.0) BadOption >>= λ on. Ok (Messages on, value.1)
 
+abbrev pub declined_at : Unserved → List Token → Result (Setting × List Token) CmdFault
+declined_at option tokens = value_at tokens >>= λ value. if is_truth false value.0 then Ok (Declined option, value.1) else Err BadOption
+
+abbrev pub unserved_of : List ℕ → Option Unserved
+unserved_of name =
+    if bytes_eq name (codes "binary") then Some Binary else if bytes_eq name (codes "streaming") then Some Streaming else if bytes_eq name (codes "two_phase") then Some TwoPhase else None
+
+abbrev pub unserved_at : Option Unserved → List Token → Result (Setting × List Token) CmdFault
+unserved_at None tokens = Err BadOption
+unserved_at (Some option) tokens = declined_at option tokens
+
 unfoldable pub setting_at : List Token → Result (Setting × List Token) CmdFault
 setting_at tokens = name_at tokens >>= λ name.
     if bytes_eq name.0 (codes "proto_version") then version_at name.1
     else if bytes_eq name.0 (codes "publication_names") then publications_at name.1
     else if bytes_eq name.0 (codes "messages") then messages_at name.1
-    else Err BadOption
+    else unserved_at (unserved_of name.0) name.1
 
 -- what is asked of the stream, where the version is told and the publications are
 abbrev pub stream_options : Bool → Option (List (List ℕ)) → Option Bool → Result StreamOptions CmdFault
@@ -80,7 +108,12 @@ options_of_settings version names messages [] = stream_options version names mes
 options_of_settings version names messages (Version ∷ settings) = if version then Err BadOption else options_of_settings true names messages settings
 options_of_settings version names messages (Publications chosen ∷ settings) = if is_some names then Err BadOption else options_of_settings version (Some chosen) messages settings
 options_of_settings version names messages (Messages on ∷ settings) = if is_some messages then Err BadOption else options_of_settings version names (Some on) settings
+options_of_settings version names messages (Declined option ∷ settings) = options_of_settings version names messages settings
+
+-- what isn't served stands twice
+abbrev pub declines_twice : List Setting → Bool
+declines_twice settings = nat_lt 1 (count_by (declines Binary) settings) || (nat_lt 1 (count_by (declines Streaming) settings) || nat_lt 1 (count_by (declines TwoPhase) settings))
 
 -- what these options ask for
 abbrev pub told_options : List Setting → Result StreamOptions CmdFault
-told_options settings = options_of_settings false None None settings
+told_options settings = if declines_twice settings then Err BadOption else options_of_settings false None None settings

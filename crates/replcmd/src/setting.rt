@@ -1,15 +1,15 @@
 //! The options of START_REPLICATION: in any order, none twice; and what they ask of a stream.
 
-ghost use Rattle.std.specs.Prelude.{◌≡◌};
+ghost use Rattle.std.specs.Prelude.{◌≡◌, None, false, count_by};
 ghost use Rattle.replcmd.specs.Commands.{more_settings, options_at, settings_at};
 ghost use Rattle.replcmd.specs.Reading.{Gives, GivesItems};
-ghost use Rattle.replcmd.specs.Settings.{told_options, messages_at, publications_at, setting_at, version_at};
+ghost use Rattle.replcmd.specs.Settings.{told_options, options_of_settings, declined_at, declines, declines_twice, messages_at, publications_at, setting_at, unserved_of, version_at};
 
 use crate::fault::CmdFault;
 use crate::publications::names_of;
 use crate::token::{CLOSE, COMMA, OPEN};
 use crate::tokens::Tokens;
-use crate::words::truth_of;
+use crate::words::{is_off, truth_of};
 use pqformat::{Items, Text};
 use std::alloc::Global;
 
@@ -23,6 +23,17 @@ pub struct StreamOptions {
     pub messages: bool,
 }
 
+/// An option that isn't served, and may be told to ask for nothing, as clients do that name all they know.
+#[derive(Clone, Copy, PartialEq, Eq)]
+pub(crate) enum Unserved {
+    /// Values in the binary form of their types.
+    Binary,
+    /// Changes of transactions in progress.
+    Streaming,
+    /// Transactions that are prepared.
+    TwoPhase,
+}
+
 /// An option, with what its value says.
 #[derive(Drop)]
 pub(crate) enum Setting {
@@ -32,6 +43,8 @@ pub(crate) enum Setting {
     Publications(Items<Text>),
     /// Whether the messages in the log are asked for.
     Messages(bool),
+    /// That nothing is asked for by an option that isn't served.
+    Declined(Unserved),
 }
 
 /// The options in brackets; none where no bracket is opened.
@@ -86,6 +99,33 @@ fn setting_of(alloc: Global, tokens: &mut Tokens<'_>) -> Result<Setting, CmdFaul
     if name.as_str() == "messages" {
         return messages_of(tokens);
     }
+    match unserved_of(name.as_str()) {
+        Some(option) => declined_of(option, tokens),
+        None => Err(CmdFault::BadOption),
+    }
+}
+
+/// The option of this name that isn't served.
+fn unserved_of(name: &str) -> Option<Unserved>
+    ensures { result ≡ unserved_of name.now }
+{
+    match name {
+        "binary" => Some(Unserved::Binary),
+        "streaming" => Some(Unserved::Streaming),
+        "two_phase" => Some(Unserved::TwoPhase),
+        _ => None,
+    }
+}
+
+/// The value with which it asks for nothing.
+#[tactic(auto, unfolding(crate::specs::Reading::truth_of))]
+fn declined_of(option: Unserved, tokens: &mut Tokens<'_>) -> Result<Setting, CmdFault>
+    ensures { Gives result tokens.new (declined_at option tokens.old) }
+{
+    let value = tokens.value()?;
+    if is_off(value.as_str()) {
+        return Ok(Setting::Declined(option));
+    }
     Err(CmdFault::BadOption)
 }
 
@@ -119,6 +159,46 @@ fn messages_of(tokens: &mut Tokens<'_>) -> Result<Setting, CmdFault>
 pub(crate) fn gathered(settings: Vec<Setting>) -> Result<StreamOptions, CmdFault>
     ensures { result ≡ told_options settings.items }
 {
+    if declines_twice(settings.as_slice()) {
+        drop(settings);
+        return Err(CmdFault::BadOption);
+    }
+    summed(settings)
+}
+
+/// Whether an option that isn't served stands twice.
+fn declines_twice(settings: &[Setting]) -> bool
+    ensures { result ≡ declines_twice settings.now }
+{
+    1 < declined(settings, Unserved::Binary)
+        || 1 < declined(settings, Unserved::Streaming)
+        || 1 < declined(settings, Unserved::TwoPhase)
+}
+
+/// How often it stands there.
+fn declined(settings: &[Setting], option: Unserved) -> usize
+    ensures { result ≡ count_by (declines option) settings.now }
+{
+    settings
+        .iter()
+        .filter(|setting| declines(option, *setting))
+        .count()
+}
+
+fn declines(option: Unserved, setting: &Setting) -> bool
+    ensures { result ≡ declines option setting.now }
+{
+    match (option, setting) {
+        (Unserved::Binary, Setting::Declined(Unserved::Binary)) => true,
+        (Unserved::Streaming, Setting::Declined(Unserved::Streaming)) => true,
+        (Unserved::TwoPhase, Setting::Declined(Unserved::TwoPhase)) => true,
+        _ => false,
+    }
+}
+
+fn summed(settings: Vec<Setting>) -> Result<StreamOptions, CmdFault>
+    ensures { result ≡ options_of_settings false None None settings.items }
+{
     let mut version = false;
     let mut publications = None;
     let mut messages = None;
@@ -127,6 +207,7 @@ pub(crate) fn gathered(settings: Vec<Setting>) -> Result<StreamOptions, CmdFault
             Setting::Version if !version => version = true,
             Setting::Publications(names) if publications.is_none() => publications = Some(names),
             Setting::Messages(on) if messages.is_none() => messages = Some(on),
+            Setting::Declined(_) => {}
             _ => return Err(CmdFault::BadOption),
         }
     }

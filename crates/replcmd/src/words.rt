@@ -1,9 +1,9 @@
 //! What a word or a name may be.
 
-ghost use Rattle.std.specs.Prelude.{◌≡◌, IfOk, map};
+ghost use Rattle.std.specs.Prelude.{◌≡◌, IfOk, map, false};
 ghost use Rattle.std.specs.Char.{to_ascii_lowercase};
 ghost use Rattle.std.specs.List.{list_all};
-ghost use Rattle.replcmd.specs.Words.{is_keyword, is_later, is_bare, is_slot_byte, is_slot_name};
+ghost use Rattle.replcmd.specs.Words.{is_keyword, is_truth, is_later, is_bare, is_slot_byte, is_slot_name};
 ghost use Rattle.replcmd.specs.Reading.{truth_of};
 
 use pqformat::Text;
@@ -28,10 +28,17 @@ pub(crate) fn truth_of(word: &str) -> Option<bool>
     if is_keyword("true", word) || is_keyword("on", word) {
         return Some(true);
     }
-    if is_keyword("false", word) || is_keyword("off", word) {
+    if is_off(word) {
         return Some(false);
     }
     None
+}
+
+/// Whether the word says no: `false` or `off`, in either case.
+pub(crate) fn is_off(word: &str) -> bool
+    ensures { result ≡ is_truth false word.now }
+{
+    is_keyword("false", word) || is_keyword("off", word)
 }
 
 /// Whether the word is a bare name: a letter or an underscore, and then letters, digits, underscores or dollar signs.

@@ -14,9 +14,9 @@ use command_line::{address_of, arguments_of, count_of, ended};
 use fault::Fault;
 use follower::{Form, Options, follow};
 use keeping::{keep_in, keep_printing};
+use printout::Printout;
 use replcmd::parse_position;
 use std::alloc::Global;
-use std::io;
 use std::io::{BufWriter, Write};
 use std::net::{Net, SocketAddr, TcpListener, TcpStream};
 use std::process::ExitCode;
@@ -56,7 +56,7 @@ fn follow_at<N: Net<Listener = TcpListener, Stream = TcpStream> + Wait>(
     address: SocketAddr,
     options: &Options,
 ) -> Result<(), Fault> {
-    let mut output = BufWriter::new(rt.alloc(), io::writer(rt)).map_err(Fault::Output)?;
+    let mut output = BufWriter::new(rt.alloc(), Printout::new(rt)).map_err(Fault::Output)?;
     follow_into(net, rt.alloc(), address, options, &mut output)
 }
 

@@ -1,18 +1,25 @@
 //! The standard output as what transactions are printed into.
 
 use follower::Output;
-use std::io;
-use std::io::{Printer, Write};
+use std::io::{ErrorKind, Printer, Write};
+use std::time::Duration;
+use std::{io, thread};
 
-/// The standard output, which keeps nothing for a later run.
+/// For how many milliseconds an output that takes nothing for now is left alone.
+const PAUSE: u64 = 10;
+
+/// The standard output, which keeps nothing for a later run. One that was opened so that no write waits is written again and again
+/// until it takes all.
 #[derive(Drop)]
 pub struct Printout<'a> {
+    rt: &'a HostRuntime,
     printer: Printer<'a, HostRuntime>,
 }
 
 impl<'a> Printout<'a> {
     pub fn new(rt: &'a HostRuntime) -> Self {
         Printout {
+            rt,
             printer: io::writer(rt),
         }
     }
@@ -20,7 +27,15 @@ impl<'a> Printout<'a> {
 
 impl Write for Printout<'_> {
     fn write(&mut self, bytes: &[u8]) -> io::Result<usize> {
-        self.printer.write(bytes)
+        for _ in 0..u64::MAX {
+            match self.printer.write(bytes) {
+                Err(fault) if fault.kind() == ErrorKind::WouldBlock => {
+                    thread::sleep(self.rt, Duration::from_millis(PAUSE));
+                }
+                written => return written,
+            }
+        }
+        Err(io::Error::other("it takes nothing"))
     }
 
     fn flush(&mut self) -> io::Result<()> {
