@@ -33,6 +33,7 @@ from json_lines import (
     lines_of_json_tell_what_a_server_sends,
 )
 from limits import (
+    a_client_too_many_is_heard_out,
     a_place_is_never_used_again,
     a_refusal_is_told_with_what_was_asked,
     a_refusal_names_its_slot,
@@ -41,6 +42,7 @@ from limits import (
     an_end_is_told_with_its_cause,
     as_many_are_served_as_may_be,
     only_what_is_asked_for_is_told,
+    why_a_connection_is_not_taken_is_told,
 )
 from large import a_transaction_that_is_too_large_is_passed_once_it_is_undone
 from link import Link
@@ -61,6 +63,14 @@ from steering import (
     a_script_steers_too,
     a_server_ends_in_order,
     a_stream_is_held_and_let_go,
+)
+from stopping import (
+    a_drop_that_waits_ends_with_its_client,
+    a_held_stream_is_not_cut_for_silence,
+    a_server_that_was_stopped_goes_on,
+    an_end_takes_ten_seconds,
+    who_reads_no_answer_before_its_startup_is_let_go,
+    who_reads_nothing_any_more_is_let_go,
 )
 from systems import (
     a_follower_that_is_stopped_goes_on,
@@ -343,6 +353,8 @@ LONG = [
     cuts_and_kills_lose_and_repeat_no_message,
     cuts_and_kills_lose_and_repeat_no_line_of_json,
     a_silent_server_is_asked_and_then_lost,
+    an_end_takes_ten_seconds,
+    who_reads_no_answer_before_its_startup_is_let_go,
 ]
 ALL = [
     a_conversation_goes_frame_by_frame,
@@ -387,6 +399,12 @@ ALL = [
     a_startup_of_many_parameters_is_answered,
     a_startup_has_its_time,
     as_many_are_served_as_may_be,
+    a_client_too_many_is_heard_out,
+    why_a_connection_is_not_taken_is_told,
+    who_reads_nothing_any_more_is_let_go,
+    a_server_that_was_stopped_goes_on,
+    a_held_stream_is_not_cut_for_silence,
+    a_drop_that_waits_ends_with_its_client,
     an_end_is_told_with_its_cause,
     only_what_is_asked_for_is_told,
     a_refusal_is_told_with_what_was_asked,

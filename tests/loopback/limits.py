@@ -1,11 +1,13 @@
 """What is limited: connections at once, the time of a startup, places for slots; and what is told of how connections end."""
+import os
+import shutil
 import struct
 import subprocess
 import time
 
 from asking import wrong_texts
 from connection import STARTUP, TERMINATE, Connection, Refused, framed
-from server import CONFIGURATION, Server
+from server import CONFIGURATION, NOBODY, Server
 
 CLOSED = " closed by its client"
 CROWD = "pubd: a connection was closed, since max_connections are served"
@@ -13,6 +15,13 @@ CROWD = "pubd: a connection was closed, since max_connections are served"
 LATER, LATEST = 1.5, 10
 # Places for slots.
 PLACES = 16
+# How many clients that are too many are heard out at once.
+MOST_HEARD = 16
+# What a client may send before its startup, and what the server answers.
+SSL_REQUEST, GSS_REQUEST = (struct.pack(">II", 8, number) for number in (80_877_103, 80_877_104))
+CANCEL_REQUEST = struct.pack(">IIII", 16, 80_877_102, 1, 1)
+# Clients of PostgreSQL, and what is due of each where it is one too many: its status and its words.
+INSTALLED = [("psql", 2, "FATAL:  sorry, too many clients already"), ("pg_isready", 0, "accepting connections")]
 
 
 def a_startup_has_its_time(pubd, subcat):
@@ -65,9 +74,68 @@ def as_many_are_served_as_may_be(pubd, subcat):
 
 def refusal_in_a_crowd(port):
     client = Connection(port, says_nothing=True)
+    client.begin()
     code = client.refusal()
     client.close()
     return [f"a third connection is refused by {code}"] * (code != "53300")
+
+
+def a_client_too_many_is_heard_out(pubd, subcat):
+    """It is answered as by PostgreSQL: encryption is denied, and its startup refused; a request to cancel gets no word. Who says nothing
+    holds up nobody, and has its time; of more than a few such clients each is refused at once."""
+    startup = struct.pack(">I", len(STARTUP) + 4) + STARTUP
+    said = {
+        "a startup": [startup],
+        "a startup in pieces": [startup[:1], startup[1:6], startup[6:]],
+        "an SSLRequest": [SSL_REQUEST, startup],
+        "an SSLRequest and a GSSENCRequest": [SSL_REQUEST, GSS_REQUEST, startup],
+        "requests without end": [SSL_REQUEST] * 3,
+        "bytes that are no startup": [b"GET / HTTP/1.1\r\n"],
+    }
+    with Server(pubd, 2, more=["--max-connections", "1", "--authentication-timeout", "2s"]) as server:
+        first = Connection(server.port)
+        begun = time.monotonic()
+        silent = [Connection(server.port, says_nothing=True)]
+        wrong = [f"{what} is answered otherwise" for what, pieces in said.items() if not is_told_of_a_crowd(server.port, pieces)]
+        cancelling = Connection(server.port, says_nothing=True)
+        cancelling.socket.sendall(CANCEL_REQUEST)
+        wrong += ["a request to cancel gets words"] * (cancelling.bytes.read() != b"")
+        cancelling.close()
+        wrong += [told for told in (installed_in_a_crowd(server.port, *each) for each in INSTALLED) if told]
+        silent += [Connection(server.port, says_nothing=True) for _ in range(MOST_HEARD - 1)]
+        more = Connection(server.port, says_nothing=True)
+        wrong += ["one of too many that say nothing isn't refused at once"] * (more.refusal() != "53300")
+        wrong += ["who says nothing gets words"] * any(client.bytes.read() for client in silent)
+        wrong += ["who says nothing is closed early"] * (time.monotonic() - begun < 2)
+        first.close()
+        told = []
+        for client in (*silent, more, let_in(server.port, told)):
+            client.close()
+        refused = len(said) + 1 + sum(shutil.which(name) is not None for name, _, _ in INSTALLED)
+        return wrong + server.end(ended=[CROWD] * refused + told)
+
+
+def installed_in_a_crowd(port, name, status, due):
+    """What is wrong with what this client of PostgreSQL says, if it is installed."""
+    if not shutil.which(name):
+        return None
+    ran = subprocess.run([name, "-h", "127.0.0.1", "-p", str(port), "-U", "me", "-d", "app"], capture_output=True, text=True, timeout=60)
+    said = ran.stdout + ran.stderr
+    return None if ran.returncode == status and due in said else f"{name} ends with {ran.returncode} and says {said!r}"
+
+
+def is_told_of_a_crowd(port, pieces):
+    """Whether each request for encryption gets an N, and the client a refusal in the end."""
+    client = Connection(port, says_nothing=True)
+    denied = sum(piece in (SSL_REQUEST, GSS_REQUEST) for piece in pieces[:2])
+    for at, piece in enumerate(pieces):
+        client.socket.sendall(piece)
+        if at < denied and client.bytes.read(1) != b"N":
+            return False
+        time.sleep(0.05)
+    code = client.refusal()
+    client.close()
+    return code == "53300"
 
 
 def let_in(port, told):
@@ -79,6 +147,32 @@ def let_in(port, told):
             told.append(CROWD)
             time.sleep(0.01)
     raise TimeoutError("nobody is let in")
+
+
+def why_a_connection_is_not_taken_is_told(pubd, subcat):
+    """No descriptor for the end of the server to reach it by, or for the next connection itself, which a listener that waits has already;
+    no thread. Only root can be a user who has no more threads."""
+    closed = "pubd: a connection was closed, since no {} was to be had for it"
+    accepted = "pubd: a connection could not be accepted: Too many open files (os error 24)"
+    wrong = why_none_is_taken(pubd, "nofile", 1, None, {closed.format("descriptor")})
+    wrong += why_none_is_taken(pubd, "nofile", 0, None, {closed.format("descriptor"), accepted})
+    if os.getuid() == 0:
+        wrong += why_none_is_taken(pubd, "nproc", 0, NOBODY, {closed.format("thread")})
+    return wrong
+
+
+def why_none_is_taken(pubd, what, more, user, due):
+    """What is wrong with what a server tells that may have so much more of this while a client comes."""
+    with Server(pubd, 1, user=user) as server:
+        time.sleep(0.3)
+        has = len(os.listdir(f"/proc/{server.process.pid}/fd")) if what == "nofile" else server.threads()
+        server.limit(what, has + more)
+        client = Connection(server.port, says_nothing=True)
+        time.sleep(0.3)
+        client.close()
+        server.process.kill()
+        told = set(server.process.stderr.read().splitlines())
+        return [f"with {more} more of {what} it tells {told}, and not {due}"] * (told != due)
 
 
 def an_end_is_told_with_its_cause(pubd, subcat):
@@ -102,7 +196,7 @@ def an_end_is_told_with_its_cause(pubd, subcat):
             ended=[
                 "pubd: connection 1 closed by its client",
                 "pubd: connection 2 closed by its client",
-                "pubd: connection 3 lost: it cannot be read",
+                "pubd: connection 3 closed by its client",
                 "pubd: connection 4 closed: its client sent what no server takes then",
                 "pubd: connection 5 closed: its client was silent for wal_sender_timeout",
             ]
@@ -110,11 +204,16 @@ def an_end_is_told_with_its_cause(pubd, subcat):
 
 
 def only_what_is_asked_for_is_told(pubd, subcat):
-    """By default nothing of a client that goes, and of a level that tells less nothing of a connection that was served."""
+    """By default nothing of a client that goes, with bytes that it hasn't read too, and of a level that tells less nothing of a connection
+    that was served."""
     wrong = []
-    for more, told in (([], ["pubd: connection 2 closed: its client sent what no server takes then"]), (["--log-min-messages", "error"], [])):
-        with Server(pubd, 2, more=more) as server:
+    for more, told in (([], ["pubd: connection 3 closed: its client sent what no server takes then"]), (["--log-min-messages", "error"], [])):
+        with Server(pubd, 3, more=more) as server:
             Connection(server.port).close()
+            leaving = Connection(server.port)
+            leaving.socket.sendall(framed("51" + b"IDENTIFY_SYSTEM\0".hex()))
+            time.sleep(0.1)
+            leaving.close()
             client = Connection(server.port)
             client.socket.sendall(framed("7a"))
             client.bytes.read()

@@ -81,7 +81,7 @@ module _ (L : RattleType) (s : slot_name.Ghosts L.Denot) (l : log_name.Ghosts L.
                               search (heap.crosses, sendable) depth 10,
                               (
                                 search (post_sync, heap.crosses, sendable) depth 10,
-                                (sockets_sync, (search (reader.the_send L l, heap.crosses, sendable) depth 10, tt)),
+                                (sockets_sync, (search (heap.crosses, sendable) depth 10, (sockets_sync, (search (reader.the_send L l, heap.crosses, sendable) depth 10, tt)))),
                               ),
                             ),
                           ),

@@ -3,77 +3,137 @@
 use crate::commons::Commons;
 use crate::fault::ServeFault;
 use connections::{
-    Arrival, Gate, Trouble, Untaken, is_of_listener, next_socket, rest, write_trouble,
+    Arrival, Gate, Trouble, Unserved, Untaken, hear_in_crowd, is_of_listener, next_socket, rest,
+    write_trouble,
 };
 use shared_log::LogName;
 use slots::SlotName;
 use std::net::{Shutdown, TcpListener, TcpStream};
 use std::sync::Wait;
+use std::sync::atomic::Ordering;
 use std::time::Clock;
 
+/// How many connections are heard out at once that are too many; more of them are refused before they have said a word.
+const MOST_HEARD: u32 = 16;
+
+/// What becomes of a connection that came.
+#[derive(Clone, Copy, PartialEq, Eq)]
+pub enum Place {
+    Served,
+    /// As many are served as may be, and it is told so once its startup is there.
+    Crowd,
+}
+
 impl<L: LogName + SlotName> Commons<L> {
-    /// Whether a connection came that can be served. The listener rests where it can't give one for now.
+    /// What becomes of the connection that came, if one came that has a place. The listener rests where it can't give one for now.
     pub fn arrives<G: Gate, R: Wait + Clock>(
         &self,
         rt: &R,
         listener: &TcpListener,
         gate: &G,
         arrival: &Arrival,
-    ) -> Result<bool, ServeFault> {
-        match next_socket(listener, self.silence()) {
+    ) -> Result<Option<Place>, ServeFault> {
+        match next_socket(listener, self.silence(), self.stalling()) {
             Ok(socket) => Ok(self.takes(rt, gate, arrival, socket)),
             Err(fault) if is_of_listener(&fault) => Err(ServeFault::Listener(fault)),
             Err(fault) => {
                 gate.untaken(&Untaken::Accept(fault));
                 rest(rt);
-                Ok(false)
+                Ok(None)
             }
         }
     }
 
-    /// Whether a connection is served whose socket has come.
+    /// Which place a connection has whose socket has come.
     fn takes<G: Gate, R: Wait>(
         &self,
         rt: &R,
         gate: &G,
         arrival: &Arrival,
         socket: TcpStream,
-    ) -> bool {
+    ) -> Option<Place> {
         if self.is_ending() {
-            return false;
+            return None;
         }
-        if !self.admit() {
-            self.refuse(gate, &Untaken::Crowd, &socket);
-            return false;
+        let place = self.place_of_one_more();
+        match place {
+            Some(_) => arrival.put(rt, socket),
+            None => self.refuse(gate, Unserved::Crowd, &socket),
         }
-        arrival.put(rt, socket);
-        true
+        place
     }
 
-    /// Whether both threads of the connection that came run, the first of which was begun or not. One that can't have them is told so.
+    fn place_of_one_more(&self) -> Option<Place> {
+        if self.admit() {
+            return Some(Place::Served);
+        }
+        if MOST_HEARD <= self.crowd.fetch_add(1, Ordering::SeqCst) {
+            self.free_place(Place::Crowd);
+            return None;
+        }
+        Some(Place::Crowd)
+    }
+
+    /// A connection has its place no more.
+    fn free_place(&self, place: Place) {
+        match place {
+            Place::Served => self.dismiss(),
+            Place::Crowd => {
+                self.crowd.fetch_sub(1, Ordering::SeqCst);
+            }
+        }
+    }
+
+    /// Whether all threads of the connection that came run, the first of which was begun or not. One that can't have them is told so.
     pub fn has_threads<G: Gate, R: Wait>(
         &self,
         rt: &R,
         gate: &G,
         arrival: &Arrival,
+        place: Place,
         is_begun: bool,
     ) -> bool {
         if !is_begun {
             arrival.settle(rt);
         }
-        let Some(socket) = arrival.settled(rt) else {
+        let Some((socket, why)) = arrival.settled(rt) else {
             return true;
         };
-        self.dismiss();
-        self.refuse(gate, &Untaken::Thread, &socket);
+        self.free_place(place);
+        self.refuse(gate, why, &socket);
         false
     }
 
-    /// Tells a client that it can't be served beside the others.
-    fn refuse<G: Gate>(&self, gate: &G, why: &Untaken, socket: &TcpStream) {
-        gate.untaken(why);
-        let mut to = socket;
-        let _ = write_trouble(self.alloc, Trouble::Crowd, &mut to);
+    /// Hears the connection out that came and is too many, and tells it so.
+    pub fn turn_away<G: Gate, R: Wait + Clock>(
+        &self,
+        rt: &R,
+        gate: &G,
+        number: u32,
+        arrival: &Arrival,
+    ) {
+        let Some(socket) = arrival.take(rt) else {
+            return;
+        };
+        if let Err(why) = self.turned_away.enter(rt, number, &socket) {
+            arrival.give_back(rt, socket, why);
+            return;
+        }
+        arrival.settle(rt);
+        if hear_in_crowd(rt, self.alloc, &socket, self.startup_until(rt)) {
+            self.refuse(gate, Unserved::Crowd, &socket);
+        }
+        self.turned_away.leave(rt, number);
+        self.free_place(Place::Crowd);
+    }
+
+    /// Tells a client that it can't be served beside the others. Behind the server's end nobody is told anything.
+    fn refuse<G: Gate>(&self, gate: &G, why: Unserved, socket: &TcpStream) {
+        gate.untaken(&Untaken::Closed(why));
+        if why != Unserved::ServerEnd {
+            let mut to = socket;
+            let _ = write_trouble(self.alloc, Trouble::Crowd, &mut to);
+        }
         let _ = socket.shutdown(Shutdown::Both);
     }
 }

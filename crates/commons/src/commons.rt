@@ -44,6 +44,9 @@ pub struct Commons<L: LogName + SlotName> {
     /// One for each place of a slot.
     pub(crate) posts: Vec<SlotPost>,
     pub sockets: Sockets,
+    /// How many connections are heard out that are too many, and their sockets.
+    pub(crate) crowd: AtomicU32,
+    pub(crate) turned_away: Sockets,
     /// A reader that reads nothing: the log tells it how many records there are.
     pub(crate) counter: Mutex<LogReader<L>>,
 }
@@ -112,6 +115,8 @@ impl<L: LogName + SlotName> Commons<L> {
             changed: Condvar::new(),
             posts,
             sockets: Sockets::new(alloc),
+            crowd: AtomicU32::new(0),
+            turned_away: Sockets::new(alloc),
             counter: Mutex::new(counter),
         }
     }
@@ -135,6 +140,8 @@ impl<L: LogName + SlotName> Commons<L> {
             changed: _,
             posts: _,
             sockets: _,
+            crowd: _,
+            turned_away: _,
             counter: _,
         } = self;
         publisher.into_inner().close(rt);
@@ -156,6 +163,14 @@ impl<L: LogName + SlotName> Commons<L> {
             return None;
         }
         Some(self.settings.wal_sender_timeout / 2)
+    }
+
+    /// For how long a write of a connection waits whose client takes nothing.
+    pub fn stalling(&self) -> Option<Duration> {
+        if self.settings.wal_sender_timeout.is_zero() {
+            return None;
+        }
+        Some(self.settings.wal_sender_timeout)
     }
 
     /// By when on this clock a connection that begins now has to have said its startup.
@@ -218,13 +233,13 @@ impl<L: LogName + SlotName> Commons<L> {
         }
     }
 
-    /// Waits while the stream with this latch is held on purpose, unless its connection is over.
+    /// Waits while the stream with this latch is held on purpose, unless its connection or the server is over.
     pub fn await_release<S, R: Wait>(&self, rt: &R, line: &Line<S>, post: &SlotPost, latch: usize) {
         let Some(latch) = self.latches.get(latch) else {
             return;
         };
         for _ in rt.forever() {
-            if !post.is_held(rt) || line.is_closed(rt) {
+            if !post.is_held(rt) || line.is_closed(rt) || self.is_ending() {
                 break;
             }
             latch.wait_for_work(rt);

@@ -11,8 +11,12 @@ impl<L: LogName + SlotName> Commons<L> {
     /// connections have ended.
     pub fn shut_down<R: Wait>(&self, rt: &R) {
         self.sockets.end(rt);
+        self.turned_away.end(rt);
         for post in &self.posts {
             post.close(rt);
+        }
+        for latch in &self.latches {
+            latch.tell_work(rt);
         }
         self.end_awaiting(rt);
     }
@@ -30,5 +34,6 @@ impl<L: LogName + SlotName> Commons<L> {
     /// Closes the connections that are served, whatever is still held for them.
     pub fn cut_off<R: Wait>(&self, rt: &R) {
         self.sockets.cut_off(rt);
+        self.turned_away.cut_off(rt);
     }
 }

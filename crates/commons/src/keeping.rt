@@ -5,12 +5,17 @@ ghost use Rattle.std.specs.Prelude.{◌<◌, IfSome};
 use crate::commons::Commons;
 use crate::pool::Pair;
 use crate::refusals::of_slot;
-use connections::SlotPost;
+use connections::{SlotPost, has_gone};
 use pqformat::Text;
 use server::DeskFault;
 use shared_log::LogName;
 use slots::SlotName;
+use std::net::TcpStream;
 use std::sync::{MutexGuard, Wait};
+use std::time::{Clock, Duration};
+
+/// How many milliseconds a client waits for a slot to be free before it is looked whether it has gone.
+const LOOK: u64 = 100;
 
 impl<L: LogName + SlotName> Commons<L> {
     /// Where the log ends.
@@ -44,29 +49,44 @@ impl<L: LogName + SlotName> Commons<L> {
         Ok(())
     }
 
-    /// Drops a slot once no stream has it. Where the server ends before that, the slot is in use.
-    pub fn drop_when_free<R: Wait>(&self, rt: &R, name: &str) -> Result<(), DeskFault> {
+    /// Drops a slot once no stream has it. Where the client that asks for that, by this socket, has gone before, or the server ends,
+    /// the slot is in use.
+    pub fn drop_when_free<R: Wait + Clock>(
+        &self,
+        rt: &R,
+        name: &str,
+        socket: &TcpStream,
+    ) -> Result<(), DeskFault> {
         let mut dropped = self.drop_slot(rt, name);
         for _ in rt.forever() {
             if dropped != Err(DeskFault::SlotInUse) {
                 break;
             }
-            let goes_on = self.await_free(rt, name);
-            // Somebody else may have dropped it.
-            dropped = self.drop_slot(rt, name);
-            if !goes_on {
+            self.await_free(rt, name);
+            if self.is_ending() || has_gone(socket) {
                 break;
             }
+            // Somebody else may have dropped it.
+            dropped = self.drop_slot(rt, name);
         }
         dropped
     }
 
-    /// Waits until no stream of the slot is written; false: there is no such slot, or the server ends.
-    fn await_free<R: Wait>(&self, rt: &R, name: &str) -> bool {
-        match self.post_at(self.place_of(rt, name)) {
-            Some(post) => post.await_free(rt),
-            None => false,
+    /// Waits for a while, at most until no stream of the slot is written.
+    fn await_free<R: Wait + Clock>(&self, rt: &R, name: &str) {
+        if let Some(post) = self.post_at(self.place_of(rt, name)) {
+            post.await_free(rt, Duration::from_millis(LOOK));
         }
+    }
+
+    /// Whether the stream with this latch is held on purpose.
+    pub fn holds_stream<R: Wait>(&self, rt: &R, latch: usize) -> bool {
+        for post in &self.posts {
+            if post.holds(rt, latch) {
+                return true;
+            }
+        }
+        false
     }
 
     /// What is known of the slot at a place, and how its stream is steered.

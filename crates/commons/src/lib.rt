@@ -22,6 +22,7 @@ mod steering;
 mod system;
 mod transaction;
 
+pub use arriving::Place;
 pub use commit_notice::CommitNotice;
 pub use commons::Commons;
 pub use fault::{HubFault, ServeFault, SteerFault};

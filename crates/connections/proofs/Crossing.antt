@@ -11,6 +11,7 @@ use Rattle.slots.specs.declared.rule.SlotName as slot_name
 use Rattle.slots.proofs.lease.Lease.TheSendSync as lease
 use Rattle.slots.proofs.seat.SlotSeat.TheSendSync as seat
 use Rattle.connections.proofs.fault.ConnectionEnd.TheSendSync as end
+use Rattle.connections.proofs.fault.Unserved.TheSendSync as unserved
 use Rattle.connections.specs.contracts.arrival.Arrival as arrival
 use Rattle.connections.specs.contracts.arrival.Arriving as arriving
 use Rattle.connections.specs.contracts.hold.Hold as hold
@@ -29,7 +30,7 @@ inbox_send = declared_send inbox.the_type (
 )
 
 arriving_send : IsSend arriving.the_row
-arriving_send = declared_send arriving.the_type (search (socket.the_send, sendable) depth 10, (search sendable, tt))
+arriving_send = declared_send arriving.the_type (search (socket.the_send, sendable) depth 10, (unserved.the_send, (search sendable, tt)))
 
 pub arrival_sync : IsSync arrival.the_row
 arrival_sync = declared_sync arrival.the_type (search (arriving_send, heap.crosses, sendable) depth 20, (search (heap.crosses, sendable) depth 10, tt))

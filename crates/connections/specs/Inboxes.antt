@@ -10,3 +10,8 @@ flushed_after (Some before) position = Some (max position before)
 abbrev pub asked_after : ℕ → Bool → ℕ
 asked_after asked true = min (asked + 1) (2 ^ 32 - 1)
 asked_after asked false = asked
+
+-- of the causes for which no more was written, the one that came first
+abbrev pub first_cause : {E : Type 0} → Option E → E → E
+first_cause None cause = cause
+first_cause (Some first) cause = first

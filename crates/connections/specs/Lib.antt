@@ -1,2 +1,3 @@
+pub mod Crowds
 pub mod Inboxes
 pub mod Reins

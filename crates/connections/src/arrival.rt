@@ -1,10 +1,11 @@
-//! A connection on its way to its two threads.
+//! A connection on its way to its threads.
 
+use crate::fault::Unserved;
 use std::mem;
 use std::net::TcpStream;
 use std::sync::{Condvar, Mutex, MutexGuard, Wait};
 
-/// Where the thread that takes connections leaves one for the thread that reads it, and waits until both of its threads run.
+/// Where the thread that takes connections leaves one for the thread that reads it, and waits until all of its threads run.
 #[derive(Drop)]
 pub struct Arrival {
     arriving: Mutex<Arriving>,
@@ -14,7 +15,9 @@ pub struct Arrival {
 #[derive(Drop)]
 struct Arriving {
     socket: Option<TcpStream>,
-    /// Both of its threads run, or it has none and is still here.
+    /// Why it can't be served whose socket is here.
+    why: Unserved,
+    /// All of its threads run, or it has none and is still here.
     is_settled: bool,
 }
 
@@ -23,6 +26,7 @@ impl Arrival {
         Arrival {
             arriving: Mutex::new(Arriving {
                 socket: None,
+                why: Unserved::Thread,
                 is_settled: false,
             }),
             settled: Condvar::new(),
@@ -33,6 +37,7 @@ impl Arrival {
     pub fn put<R: Wait>(&self, rt: &R, socket: TcpStream) {
         let mut arriving = self.arriving.lock(rt);
         arriving.socket = Some(socket);
+        arriving.why = Unserved::Thread;
         arriving.is_settled = false;
         drop(arriving);
     }
@@ -45,7 +50,7 @@ impl Arrival {
         socket
     }
 
-    /// It was taken and both of its threads run, or nobody takes it.
+    /// It was taken and all of its threads run, or nobody takes it.
     pub fn settle<R: Wait>(&self, rt: &R) {
         let mut arriving = self.arriving.lock(rt);
         arriving.is_settled = true;
@@ -53,23 +58,25 @@ impl Arrival {
         self.settled.notify_all();
     }
 
-    /// It was taken, and can't have its second thread.
-    pub fn give_back<R: Wait>(&self, rt: &R, socket: TcpStream) {
+    /// It was taken, and can't be served.
+    pub fn give_back<R: Wait>(&self, rt: &R, socket: TcpStream, why: Unserved) {
         let mut arriving = self.arriving.lock(rt);
         arriving.socket = Some(socket);
+        arriving.why = why;
         arriving.is_settled = true;
         drop(arriving);
         self.settled.notify_all();
     }
 
-    /// Waits until both of its threads run, and answers the connection where it can't have them.
-    pub fn settled<R: Wait>(&self, rt: &R) -> Option<TcpStream> {
+    /// Waits until all of its threads run, and answers the connection where it can't be served, and why.
+    pub fn settled<R: Wait>(&self, rt: &R) -> Option<(TcpStream, Unserved)> {
         let arriving = self.arriving.lock(rt);
         let mut arriving = self
             .settled
             .wait_while(rt, arriving, |arriving| !arriving.is_settled);
         let socket = mem::replace(&mut arriving.socket, None);
+        let why = arriving.why;
         let _ = MutexGuard::unlock(arriving);
-        socket
+        Some((socket?, why))
     }
 }

@@ -12,10 +12,23 @@ use thiserror::Error;
 pub enum Untaken {
     #[error("a connection could not be accepted: {0}")]
     Accept(io::Error),
-    #[error("a connection was closed, since no thread was to be had for it")]
+    #[error("a connection was closed, since {0}")]
+    Closed(Unserved),
+}
+
+/// Why a connection that came is not served.
+#[derive(Clone, Copy, Debug, PartialEq, Eq, Error)]
+pub enum Unserved {
+    #[error("no thread was to be had for it")]
     Thread,
-    #[error("a connection was closed, since max_connections are served")]
+    #[error("no descriptor was to be had for it")]
+    Descriptor,
+    #[error("no memory was to be had for it")]
+    Memory,
+    #[error("max_connections are served")]
     Crowd,
+    #[error("the server ends")]
+    ServerEnd,
 }
 
 /// Why a connection ended that was served.
@@ -31,6 +44,8 @@ pub enum ConnectionEnd {
     NoStartup,
     #[error("closed: its client was silent for wal_sender_timeout")]
     Silent,
+    #[error("closed: its client took nothing for wal_sender_timeout")]
+    Stalled,
     #[error("closed: out of memory")]
     Memory,
     #[error("closed: transactions in progress fill the chunks of its stream")]
@@ -46,11 +61,12 @@ pub enum ConnectionEnd {
 }
 
 impl ConnectionEnd {
-    /// Whether its stream could not go on.
-    pub fn is_of_stream(self) -> bool {
+    /// Whether its writing thread tells why, and not its reading thread.
+    pub fn is_of_writing(self) -> bool {
         matches!(
             self,
-            ConnectionEnd::Memory
+            ConnectionEnd::Stalled
+                | ConnectionEnd::Memory
                 | ConnectionEnd::FullArena
                 | ConnectionEnd::TooFewChunks(_)
                 | ConnectionEnd::NoEntry

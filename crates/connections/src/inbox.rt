@@ -1,7 +1,7 @@
 //! What a connection's reading thread leaves for its writing thread.
 
 ghost use Rattle.std.specs.Prelude.{◌≡◌, ◌++◌, ◌==◌, ◌↔◌, ◌&&◌, [], Some, None, length, max, not, true, false};
-ghost use Rattle.connections.specs.Inboxes.{asked_after, flushed_after};
+ghost use Rattle.connections.specs.Inboxes.{asked_after, first_cause, flushed_after};
 
 use crate::fault::ConnectionEnd;
 use bytes::BytesMut;
@@ -25,7 +25,7 @@ pub struct Inbox {
     has_ended: bool,
     /// Nothing is written any more.
     is_broken: bool,
-    /// Why the stream could not be written to its end.
+    /// Why no more could be written.
     early: Option<ConnectionEnd>,
 }
 
@@ -140,6 +140,14 @@ impl Inbox {
         self.phase == Phase::Closed
     }
 
+    /// Whether what the client of a stream sends is read as it comes, so that its silence is noticed: nothing waits to be said.
+    pub fn is_heard(&self) -> bool
+        ensures { (result ≡ true)
+            ↔ ((self.now.phase ≡ Phase.Streaming) × (self.now.said.items ≡ [])) }
+    {
+        self.phase == Phase::Streaming && self.said.is_empty()
+    }
+
     /// Whether the reading thread has to wait before it says more.
     pub fn is_full(&self) -> bool {
         !self.said.is_empty() && !self.is_broken
@@ -170,14 +178,14 @@ impl Inbox {
         self.has_ended = false;
     }
 
-    /// The stream could not be written to its end.
+    /// No more could be written; the first cause stays.
     pub fn end_early(&mut self, end: ConnectionEnd)
-        ensures { self.new ≡ record self.old { early = Some end } }
+        ensures { self.new ≡ record self.old { early = Some (first_cause self.old.early end) } }
     {
-        self.early = Some(end);
+        self.early = Some(self.early.unwrap_or(end));
     }
 
-    /// Why the stream could not be written to its end.
+    /// Why no more could be written.
     pub fn early(&self) -> Option<ConnectionEnd>
         ensures { result ≡ self.now.early }
     {

@@ -9,6 +9,7 @@
 #![tactic(auto)]
 
 mod arrival;
+mod crowd;
 mod fault;
 mod frame_walk;
 mod gate;
@@ -18,6 +19,7 @@ mod latch;
 mod line;
 mod listening;
 mod names;
+mod outlet;
 mod reading;
 mod refused_command;
 mod reins;
@@ -27,7 +29,8 @@ mod tap;
 mod words;
 
 pub use arrival::Arrival;
-pub use fault::{ConnectionEnd, Untaken};
+pub use crowd::hear_in_crowd;
+pub use fault::{ConnectionEnd, Unserved, Untaken};
 pub use gate::{Gate, OpenGate};
 pub use hold::Hold;
 pub use inbox::{Inbox, Work};
@@ -35,7 +38,8 @@ pub use latch::Latch;
 pub use line::Line;
 pub use listening::{is_of_listener, next_socket, rest};
 pub use names::Names;
-pub use reading::{Came, limit_wait, read_more};
+pub use outlet::Outlet;
+pub use reading::{Came, Patience, has_gone, read_more};
 pub use refused_command::RefusedCommand;
 pub use reins::{Rein, Reins};
 pub use slot_post::{KnownSlot, SlotPost};

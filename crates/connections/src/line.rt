@@ -2,11 +2,13 @@
 
 use crate::fault::ConnectionEnd;
 use crate::inbox::{Inbox, Work};
+use crate::reading::left_until;
 use bytes::BytesMut;
 use server::Phase;
 use std::alloc::Global;
 use std::mem;
 use std::sync::{Condvar, Mutex, MutexGuard, Wait};
+use std::time::{Clock, Duration};
 
 /// The inbox of a connection, and the stream of a START that isn't written yet, whatever a stream is. It isn't `Drop`: `end` ends it.
 pub struct Line<S> {
@@ -32,11 +34,16 @@ impl<S> Line<S> {
 
     // ---- the reading thread
 
-    /// Has these words said, behind those before, and the conversation at this phase then.
-    pub fn say<R: Wait>(&self, rt: &R, said: BytesMut, phase: Phase) -> Result<(), ConnectionEnd> {
-        let mut inbox = self
-            .taken
-            .wait_while(rt, self.inbox.lock(rt), |inbox| inbox.is_full());
+    /// Has these words said, behind those before, and the conversation at this phase then. Where those before aren't written by
+    /// this time on the clock, no startup has come to its end.
+    pub fn say<R: Wait + Clock>(
+        &self,
+        rt: &R,
+        said: BytesMut,
+        phase: Phase,
+        until: Option<Duration>,
+    ) -> Result<(), ConnectionEnd> {
+        let mut inbox = self.room(rt, until)?;
         if inbox.is_broken() {
             return Err(ConnectionEnd::Client);
         }
@@ -44,6 +51,28 @@ impl<S> Line<S> {
         drop(inbox);
         self.filled.notify_all();
         Ok(())
+    }
+
+    /// Waits until the words before were taken, or nothing is written any more.
+    fn room<R: Wait + Clock>(
+        &self,
+        rt: &R,
+        until: Option<Duration>,
+    ) -> Result<MutexGuard<'_, Inbox>, ConnectionEnd> {
+        let Some(until) = until else {
+            return Ok(
+                self.taken
+                    .wait_while(rt, self.inbox.lock(rt), |inbox| inbox.is_full()),
+            );
+        };
+        let left = left_until(rt, until)?;
+        let (inbox, waited) = self
+            .taken
+            .wait_timeout_while(rt, self.inbox.lock(rt), left, |inbox| inbox.is_full());
+        if waited.timed_out() {
+            return Err(ConnectionEnd::NoStartup);
+        }
+        Ok(inbox)
     }
 
     /// The conversation is at this phase, and nothing is to be said.
@@ -107,6 +136,11 @@ impl<S> Line<S> {
         self.inbox.lock(rt).is_closed()
     }
 
+    /// Whether what the client of a stream sends is read as it comes.
+    pub fn is_heard<R: Wait>(&self, rt: &R) -> bool {
+        self.inbox.lock(rt).is_heard()
+    }
+
     /// Takes all that is there to do.
     pub fn take<R: Wait>(&self, rt: &R) -> Work {
         let mut inbox = self.inbox.lock(rt);
@@ -132,7 +166,7 @@ impl<S> Line<S> {
         self.taken.notify_all();
     }
 
-    /// The stream could not be written to its end.
+    /// No more could be written, for this cause.
     pub fn end_early<R: Wait>(&self, rt: &R, end: ConnectionEnd) {
         self.inbox.lock(rt).end_early(end);
     }
@@ -147,7 +181,7 @@ impl<S> Line<S> {
 
     // ---- behind both
 
-    /// The stream that was never written, and why another could not be written to its end, if it could not.
+    /// The stream that was never written, and why no more could be written, if it could not.
     pub fn end(self) -> (Option<S>, Option<ConnectionEnd>) {
         let Line {
             alloc: _,

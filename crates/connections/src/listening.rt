@@ -18,11 +18,17 @@ const ENOTSOCK: i32 = 88;
 
 const EOPNOTSUPP: i32 = 95;
 
-/// The next connection. It sends what is written at once, and a read that waits for so long gives up.
-pub fn next_socket(listener: &TcpListener, silence: Option<Duration>) -> io::Result<TcpStream> {
+/// The next connection. It sends what is written at once, a read that waits for so long gives up, and so does a write of which its
+/// client takes nothing for so long.
+pub fn next_socket(
+    listener: &TcpListener,
+    silence: Option<Duration>,
+    stalling: Option<Duration>,
+) -> io::Result<TcpStream> {
     let (socket, _) = listener.accept()?;
     socket.set_nodelay(true)?;
     socket.set_read_timeout(silence)?;
+    socket.set_write_timeout(stalling)?;
     Ok(socket)
 }
 

@@ -7,7 +7,7 @@ use crate::reins::{Rein, Reins};
 use pqformat::Text;
 use std::alloc::{AllocError, Global};
 use std::sync::{Condvar, Mutex, Wait};
-use std::time::Duration;
+use std::time::{Clock, Duration};
 
 /// What is known of the slot at one place, and how its stream is steered. What it knows is told to it: the slot itself is asked only
 /// by whoever holds it.
@@ -251,14 +251,22 @@ impl SlotPost {
         is_open
     }
 
-    /// Waits until no stream of the slot is written, and answers true; false: it was dropped, or the server ends.
-    pub fn await_free<R: Wait>(&self, rt: &R) -> bool {
-        let known = self.moved.wait_while(rt, self.known.lock(rt), |known| {
-            known.is_open && known.latch.is_some()
-        });
-        let is_open = known.is_open;
+    /// Waits for so long at most, until no stream of the slot is written, or it is dropped, or the server ends.
+    pub fn await_free<R: Wait + Clock>(&self, rt: &R, limit: Duration) {
+        drop(
+            self.moved
+                .wait_timeout_while(rt, self.known.lock(rt), limit, |known| {
+                    known.is_open && known.latch.is_some()
+                }),
+        );
+    }
+
+    /// Whether the stream with this latch runs here, and is held.
+    pub fn holds<R: Wait>(&self, rt: &R, latch: usize) -> bool {
+        let known = self.known.lock(rt);
+        let holds = known.latch == Some(latch) && known.reins.is_held();
         drop(known);
-        is_open
+        holds
     }
 
     /// What is known of the slot here. None: there is none.

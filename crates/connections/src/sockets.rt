@@ -1,5 +1,6 @@
 //! The sockets of the connections that are served, so that the end of the server reaches each.
 
+use crate::fault::Unserved;
 use std::alloc::Global;
 use std::net::{Shutdown, TcpStream};
 use std::sync::atomic::{AtomicBool, Ordering};
@@ -32,16 +33,19 @@ impl Sockets {
         self.is_ending.load(Ordering::SeqCst)
     }
 
-    /// A connection of this number is served by this socket. False: it can't be, since the server ends or has no means for it.
-    pub fn enter<R: Wait>(&self, rt: &R, number: u32, socket: &TcpStream) -> bool {
+    /// A connection of this number is served by this socket, or why it can't be.
+    pub fn enter<R: Wait>(&self, rt: &R, number: u32, socket: &TcpStream) -> Result<(), Unserved> {
         let Ok(socket) = socket.try_clone() else {
-            return false;
+            return Err(Unserved::Descriptor);
         };
         let mut served = self.served.lock(rt);
         if self.is_ending() {
-            return false;
+            return Err(Unserved::ServerEnd);
         }
-        served.push(ServedSocket { number, socket }).is_ok()
+        match served.push(ServedSocket { number, socket }) {
+            Ok(()) => Ok(()),
+            Err(_) => Err(Unserved::Memory),
+        }
     }
 
     /// It is served no more.

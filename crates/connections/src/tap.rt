@@ -1,27 +1,26 @@
-//! The way from the writing thread of a stream to its socket.
+//! The way from the writing thread of a stream to its client.
 
+use crate::outlet::Outlet;
 use crate::slot_post::SlotPost;
 use std::io;
 use std::io::{ErrorKind, Write};
-use std::net::TcpStream;
 use std::sync::Wait;
 
 /// Counts what is sent, and lets nothing through behind the byte at which the connection is to be cut.
 #[derive(Drop)]
-pub struct Tap<'h, R: Wait> {
+pub struct Tap<'h, S, R: Wait> {
     pub rt: &'h R,
     pub post: &'h SlotPost,
-    pub socket: &'h TcpStream,
+    pub outlet: Outlet<'h, S, R>,
 }
 
-impl<'h, R: Wait> Write for Tap<'h, R> {
+impl<'h, S, R: Wait> Write for Tap<'h, S, R> {
     fn write(&mut self, buf: &[u8]) -> io::Result<usize> {
         let passing = self.post.passing(self.rt, buf.len());
         if passing == 0 && !buf.is_empty() && self.post.take_cut(self.rt) {
             return Err(io::Error::from(ErrorKind::ConnectionAborted));
         }
-        let mut to = self.socket;
-        let count = to.write(&buf[..passing])?;
+        let count = self.outlet.write(&buf[..passing])?;
         self.post.pass(self.rt, &buf[..count]);
         Ok(count)
     }

@@ -10,7 +10,9 @@ use replcmd::StreamOptions;
 use server::{Desk, DeskFault, Refusal, TableName};
 use shared_log::LogName;
 use slots::SlotName;
+use std::net::TcpStream;
 use std::sync::Wait;
+use std::time::Clock;
 
 /// What a connection asks of its hub. A stream that begins, and statuses, go to the connection's line; what is refused is told to the
 /// gate.
@@ -22,6 +24,7 @@ pub(crate) struct HubDesk<'h, L: LogName + SlotName, R: Wait, G: Gate> {
     pub gate: &'h G,
     /// The connection's number.
     pub number: u32,
+    pub socket: &'h TcpStream,
     /// The latch of the stream that runs.
     pub latch: Option<usize>,
 }
@@ -39,7 +42,7 @@ impl<'h, L: LogName + SlotName, R: Wait, G: Gate> HubDesk<'h, L, R, G> {
     }
 }
 
-impl<'h, L: LogName + SlotName, R: Wait, G: Gate> Desk for HubDesk<'h, L, R, G> {
+impl<'h, L: LogName + SlotName, R: Wait + Clock, G: Gate> Desk for HubDesk<'h, L, R, G> {
     // Other connections ask the same hub in between, so of a call nothing is told.
     ghost told = { λ old call new. Unit {0} };
 
@@ -86,7 +89,7 @@ impl<'h, L: LogName + SlotName, R: Wait, G: Gate> Desk for HubDesk<'h, L, R, G> 
     }
 
     fn drop_when_free(&mut self, slot: &str) -> Result<(), DeskFault> {
-        let dropped = self.commons.drop_when_free(self.rt, slot);
+        let dropped = self.commons.drop_when_free(self.rt, slot, self.socket);
         self.tell_drop(slot, &dropped);
         dropped
     }

@@ -21,7 +21,7 @@ pub use commons::{
     HubFault, HubSettings, HubStatus, OpenedHub, Savepoint, ServeFault, SlotStatus, SteerFault,
     Transaction,
 };
-pub use connections::{ConnectionEnd, Gate, OpenGate, RefusedCommand, Untaken};
+pub use connections::{ConnectionEnd, Gate, OpenGate, RefusedCommand, Unserved, Untaken};
 pub use hub::Hub;
 pub use server::Refusal;
 pub use serving::serve;

@@ -7,13 +7,13 @@ use crate::desk::HubDesk;
 use crate::streaming::Stream;
 use bytes::BytesMut;
 use commons::Commons;
-use connections::{Came, ConnectionEnd, Gate, Line, limit_wait, read_more};
+use connections::{Came, ConnectionEnd, Gate, Line, Patience, read_more};
 use server::{Connection, Phase};
 use shared_log::LogName;
 use slots::SlotName;
 use std::net::TcpStream;
 use std::sync::Wait;
-use std::time::{Clock, Duration};
+use std::time::Clock;
 
 /// How far a connection is.
 #[derive(Drop)]
@@ -27,8 +27,8 @@ struct ReadState {
     latch: Option<usize>,
     /// The client was asked for an answer, and nothing came since.
     is_asked: bool,
-    /// By when the startup has to have come, on the clock, unless it has or may take for ever.
-    startup_until: Option<Duration>,
+    /// For how long its reads wait.
+    patience: Patience,
 }
 
 /// What a reading thread is passed.
@@ -52,7 +52,7 @@ pub(crate) fn read_line<L: LogName + SlotName, R: Wait + Clock, G: Gate>(
         posted: Phase::Startup,
         latch: None,
         is_asked: false,
-        startup_until: read.commons.startup_until(read.rt),
+        patience: Patience::new(read.commons.startup_until(read.rt), read.commons.silence()),
     };
     let mut end = ConnectionEnd::Client;
     for _ in read.rt.forever() {
@@ -87,30 +87,30 @@ fn read_step<L: LogName + SlotName, R: Wait + Clock, G: Gate>(
         return Ok(());
     }
     let phase = state.connection.phase();
-    let silence = read.commons.silence();
-    limit_wait(
-        read.rt,
-        read.socket,
-        phase,
-        &mut state.startup_until,
-        silence,
-    )?;
-    match read_more(&mut state.connection, read.socket)? {
+    state.patience.limit_wait(read.rt, read.socket, phase)?;
+    let came = read_more(&mut state.connection, read.socket)?;
+    state.patience.note(came);
+    match came {
         Came::Bytes => {
             state.is_asked = false;
             Ok(())
         }
         Came::Nothing => wait_on(read, state),
+        Came::Signal => Ok(()),
     }
 }
 
 /// Nothing came for half of the time for which the client of a stream may be silent: at first it is asked for an answer, and
-/// then it is lost. Whoever has no stream may be silent.
+/// then it is lost. Whoever has no stream may be silent, and whose stream is held on purpose, since a question would be held too.
 fn wait_on<L: LogName + SlotName, R: Wait, G: Gate>(
     read: &ReadLoop<'_, L, R, G>,
     state: &mut ReadState,
 ) -> Result<(), ConnectionEnd> {
-    if state.latch.is_none() {
+    let Some(latch) = state.latch else {
+        return Ok(());
+    };
+    if read.commons.holds_stream(read.rt, latch) {
+        state.is_asked = false;
         return Ok(());
     }
     if state.is_asked {
@@ -123,7 +123,7 @@ fn wait_on<L: LogName + SlotName, R: Wait, G: Gate>(
 }
 
 /// Answers one startup or frame of what came. False: none is there whole.
-fn answer<L: LogName + SlotName, R: Wait, G: Gate>(
+fn answer<L: LogName + SlotName, R: Wait + Clock, G: Gate>(
     read: &ReadLoop<'_, L, R, G>,
     state: &mut ReadState,
 ) -> Result<bool, ConnectionEnd> {
@@ -141,7 +141,7 @@ fn answer<L: LogName + SlotName, R: Wait, G: Gate>(
 }
 
 /// Whether one was there, with what is said of it. None: there was no memory for that.
-fn answered<L: LogName + SlotName, R: Wait, G: Gate>(
+fn answered<L: LogName + SlotName, R: Wait + Clock, G: Gate>(
     read: &ReadLoop<'_, L, R, G>,
     state: &mut ReadState,
     said: &mut BytesMut,
@@ -152,6 +152,7 @@ fn answered<L: LogName + SlotName, R: Wait, G: Gate>(
         line: read.line,
         gate: read.gate,
         number: read.number,
+        socket: read.socket,
         latch: state.latch,
     };
     let Ok(more) = state.connection.answer(&mut desk, said) else {
@@ -162,7 +163,7 @@ fn answered<L: LogName + SlotName, R: Wait, G: Gate>(
 }
 
 /// Waits for the end of the stream that stops, and has it said.
-fn stop<L: LogName + SlotName, R: Wait, G: Gate>(
+fn stop<L: LogName + SlotName, R: Wait + Clock, G: Gate>(
     read: &ReadLoop<'_, L, R, G>,
     state: &mut ReadState,
 ) -> Result<(), ConnectionEnd>
@@ -178,7 +179,7 @@ fn stop<L: LogName + SlotName, R: Wait, G: Gate>(
 }
 
 /// Has the writing thread know of these words and of the phase behind them, unless it knows already.
-fn post<L: LogName + SlotName, R: Wait, G: Gate>(
+fn post<L: LogName + SlotName, R: Wait + Clock, G: Gate>(
     read: &ReadLoop<'_, L, R, G>,
     state: &mut ReadState,
     said: BytesMut,
@@ -191,7 +192,8 @@ fn post<L: LogName + SlotName, R: Wait, G: Gate>(
     if said.is_empty() {
         read.line.pass(read.rt, phase);
     } else {
-        read.line.say(read.rt, said, phase)?;
+        let until = state.patience.startup_until;
+        read.line.say(read.rt, said, phase, until)?;
     }
     tell_work(read, state.latch);
     Ok(())

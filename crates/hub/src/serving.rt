@@ -5,8 +5,8 @@ use crate::hub::Hub;
 use crate::read_loop::{ReadLoop, read_line};
 use crate::streaming::Stream;
 use crate::write_loop::{WriteLoop, write_line};
-use commons::{Commons, ServeFault};
-use connections::{Arrival, ConnectionEnd, Gate, Line};
+use commons::{Commons, Place, ServeFault};
+use connections::{Arrival, ConnectionEnd, Gate, Line, Unserved};
 use shared_log::LogName;
 use slots::SlotName;
 use std::net::{Shutdown, TcpListener, TcpStream};
@@ -20,7 +20,7 @@ use std::time::Clock;
 ///
 /// A connection counts once both of its threads run. One that can't have them, or comes where `max_connections` are served, is
 /// told so (53300) and closed, and the gate is told why; so it is where the listener can't give one for now. Then the next is
-/// taken. A failed read or write ends its connection alone, and the gate is told how each has ended. An error means that the
+/// taken. One too many is told so once its startup has come, for which it has a thread, where not too many have. A failed read or write ends its connection alone, and the gate is told how each has ended. An error means that the
 /// listener gives no more; it is answered once the connections that were taken have ended. Behind `Hub::shut_down` none is taken,
 /// and the next that comes is closed without a word.
 pub fn serve<L, G, R>(
@@ -40,67 +40,92 @@ where
     let shared = &arrival;
     thread::scope(thread::scope_env(), rt, |scope| {
         let mut taken = 0;
+        let mut turned_away: u32 = 0;
         for _ in rt.forever() {
             if connections <= taken || commons.is_ending() {
                 break;
             }
-            let number = taken + 1;
-            if !commons.arrives(rt, listener, gate, shared)? {
+            let Some(place) = commons.arrives(rt, listener, gate, shared)? else {
+                continue;
+            };
+            let number = match place {
+                Place::Served => taken + 1,
+                Place::Crowd => turned_away,
+            };
+            let spawned = scope.spawn(move || connect(rt, commons, gate, place, number, shared));
+            if !commons.has_threads(rt, gate, shared, place, spawned.is_ok()) {
                 continue;
             }
-            let spawned = scope.spawn(move || connect(rt, commons, gate, number, shared));
-            if commons.has_threads(rt, gate, shared, spawned.is_ok()) {
-                taken = number;
+            match place {
+                Place::Served => taken = number,
+                Place::Crowd => turned_away = number.wrapping_add(1),
             }
         }
         Ok(())
     })
 }
 
-/// Serves the connection that arrived, and closes its socket. Where no second thread is to be had, it goes back.
-fn connect<L, G, R>(rt: &R, commons: &Commons<L>, gate: &G, number: u32, arrival: &Arrival)
+/// Serves the connection that arrived, or turns it away, and closes its socket. Where it can't be served, it goes back.
+fn connect<L, G, R>(
+    rt: &R,
+    commons: &Commons<L>,
+    gate: &G,
+    place: Place,
+    number: u32,
+    arrival: &Arrival,
+)
+where
+    L: LogName + SlotName + Send + Sync,
+    G: Gate + Sync,
+    R: Threads + Wait + Clock + Sync,
+{
+    match place {
+        Place::Served => serve_one(rt, commons, gate, number, arrival),
+        Place::Crowd => commons.turn_away(rt, gate, number, arrival),
+    }
+}
+
+fn serve_one<L, G, R>(rt: &R, commons: &Commons<L>, gate: &G, number: u32, arrival: &Arrival)
 where
     L: LogName + SlotName + Send + Sync,
     G: Gate + Sync,
     R: Threads + Wait + Clock + Sync,
 {
     if let Some(socket) = arrival.take(rt) {
-        if !is_served(rt, commons, gate, number, arrival, &socket) {
-            arrival.give_back(rt, socket);
+        if let Err(why) = serve_to_end(rt, commons, gate, number, arrival, &socket) {
+            arrival.give_back(rt, socket, why);
         }
     }
 }
 
-/// Serves a connection to its end. False: it can't be served.
-fn is_served<L, G, R>(
+/// Serves a connection to its end, or answers why it can't be served.
+fn serve_to_end<L, G, R>(
     rt: &R,
     commons: &Commons<L>,
     gate: &G,
     number: u32,
     arrival: &Arrival,
     socket: &TcpStream,
-) -> bool
+) -> Result<(), Unserved>
 where
     L: LogName + SlotName + Send + Sync,
     G: Gate + Sync,
     R: Threads + Wait + Clock + Sync,
 {
-    if !commons.sockets.enter(rt, number, socket) {
-        return false;
-    }
+    commons.sockets.enter(rt, number, socket)?;
     let line = Line::new(commons.alloc);
     let read = both(rt, commons, gate, number, arrival, &line, socket);
     commons.sockets.leave(rt, number);
     let early = end_line(rt, commons, line);
     let Some(end) = read else {
-        return false;
+        return Err(Unserved::Thread);
     };
     commons.dismiss();
     gate.ended(number, why(early, end));
-    true
+    Ok(())
 }
 
-/// Ends a line with the stream that was never written, and answers why another could not be written to its end, if it could not.
+/// Ends a line with the stream that was never written, and answers why no more could be written, if it could not.
 fn end_line<L: LogName + SlotName, R: Wait>(
     rt: &R,
     commons: &Commons<L>,
@@ -113,10 +138,10 @@ fn end_line<L: LogName + SlotName, R: Wait>(
     early
 }
 
-/// Why a connection ended: where its stream could not go on, that, and else what its reading thread has seen.
+/// Why a connection ended: why no more could be written, where that is a cause of its own, and else what its reading thread has seen.
 fn why(early: Option<ConnectionEnd>, read: ConnectionEnd) -> ConnectionEnd {
     match early {
-        Some(end) if end.is_of_stream() => end,
+        Some(end) if end.is_of_writing() => end,
         _ => read,
     }
 }
@@ -146,8 +171,8 @@ where
     })
 }
 
-/// Reads until the connection is over, and answers why. Where its client was silent for too long, the socket is closed, so that
-/// the writing thread doesn't wait in it.
+/// Reads until the connection is over, and answers why. Where its client was silent for too long, or its startup took too long, the
+/// socket is closed, so that the writing thread doesn't wait in it.
 fn read<L: LogName + SlotName, G: Gate, R: Wait + Clock>(
     rt: &R,
     commons: &Commons<L>,
@@ -165,7 +190,7 @@ fn read<L: LogName + SlotName, G: Gate, R: Wait + Clock>(
         socket,
     };
     let end = read_line(&read);
-    if end == ConnectionEnd::Silent {
+    if matches!(end, ConnectionEnd::Silent | ConnectionEnd::NoStartup) {
         let _ = socket.shutdown(Shutdown::Both);
     }
     end

@@ -5,7 +5,7 @@ use crate::stream_desk::{StreamDesk, report};
 use crate::stream_loop::{say, write_stream};
 use crate::streaming::Stream;
 use commons::Commons;
-use connections::{ConnectionEnd, Line, SlotPost, Tap, Work};
+use connections::{ConnectionEnd, Line, Outlet, SlotPost, Tap, Work};
 use server::Phase;
 use shared_log::LogName;
 use slots::SlotName;
@@ -27,7 +27,8 @@ pub(crate) struct WriteLoop<'h, L: LogName + SlotName, R: Wait> {
 pub(crate) fn write_line<L: LogName + SlotName, R: Wait + Clock>(write: &WriteLoop<'_, L, R>) {
     for _ in write.rt.forever() {
         write.line.await_words(write.rt);
-        if write_step(write).is_err() {
+        if let Err(end) = write_step(write) {
+            write.line.end_early(write.rt, end);
             break;
         }
     }
@@ -43,12 +44,9 @@ fn write_step<L: LogName + SlotName, R: Wait + Clock>(
     let Some(stream) = stream_of(write, &work) else {
         return Ok(());
     };
-    let ended = write_whole(write, stream, work);
-    match ended {
-        Ok(()) => write.line.end_stream(write.rt),
-        Err(end) => write.line.end_early(write.rt, end),
-    }
-    ended
+    write_whole(write, stream, work)?;
+    write.line.end_stream(write.rt);
+    Ok(())
 }
 
 /// Writes what is said before all else.
@@ -56,10 +54,20 @@ fn say_first<L: LogName + SlotName, R: Wait>(
     write: &WriteLoop<'_, L, R>,
     work: &mut Work,
 ) -> Result<(), ConnectionEnd> {
-    let mut to = write.socket;
-    say(work, &mut to)?;
+    say(work, &mut outlet(write))?;
     work.said.clear();
     Ok(())
+}
+
+/// The way to its client.
+fn outlet<'h, L: LogName + SlotName, R: Wait>(
+    write: &WriteLoop<'h, L, R>,
+) -> Outlet<'h, Box<Stream<L>>, R> {
+    Outlet {
+        rt: write.rt,
+        line: write.line,
+        socket: write.socket,
+    }
 }
 
 /// The stream that began with what was said, if one did.
@@ -109,6 +117,8 @@ fn write_begun<L: LogName + SlotName, R: Wait + Clock>(
     } = *write;
     post.begin(rt, stream.latch());
     commons.await_release(rt, line, post, stream.latch());
+    // What has woken it may be work, which waits for its first turn.
+    commons.tell_work(rt, stream.latch());
     inform(rt, commons, stream);
     let mut desk = StreamDesk {
         write: WriteLoop {
@@ -119,7 +129,11 @@ fn write_begun<L: LogName + SlotName, R: Wait + Clock>(
         },
         post,
     };
-    let mut tap = Tap { rt, post, socket };
+    let mut tap = Tap {
+        rt,
+        post,
+        outlet: outlet(write),
+    };
     let ended = write_stream(rt, &mut desk, &commons.slots, stream, work, &mut tap);
     report(rt, post, stream);
     if ended != Err(ConnectionEnd::FullArena) {
