@@ -14,6 +14,9 @@ pub trait Gate {
     /// A command of a connection was refused.
     fn refused(&self, _connection: u32, _what: &RefusedCommand<'_>) {}
 
+    /// Transactions in progress have filled nine tenths of the chunks of a connection's stream: so many of so many are free.
+    fn short_of_chunks(&self, _connection: u32, _free: usize, _chunks: u32) {}
+
     /// A connection that was served has ended.
     fn ended(&self, _connection: u32, _why: ConnectionEnd) {}
 }

@@ -46,6 +46,14 @@ pub struct KnownSlot {
     was_cut: bool,
     /// Transactions in progress filled the chunks of one of its streams.
     was_full: bool,
+    /// A tenth of its stream's chunks isn't free.
+    is_short: bool,
+}
+
+/// Whether a stream counts as short of chunks: from a tenth that is free on, until a half is.
+fn is_short(free: usize, chunks: usize, was_short: bool) -> bool {
+    let enough = if was_short { chunks / 2 } else { chunks / 10 };
+    free < enough
 }
 
 impl KnownSlot {
@@ -65,6 +73,7 @@ impl KnownSlot {
             reins: Reins::loose(),
             was_cut: false,
             was_full: false,
+            is_short: false,
         }
     }
 
@@ -92,6 +101,7 @@ impl KnownSlot {
             reins: self.reins,
             was_cut: self.was_cut,
             was_full: self.was_full,
+            is_short: self.is_short,
         }))
     }
 }
@@ -114,6 +124,7 @@ impl SlotPost {
         known.confirmed = confirmed;
         known.reached = confirmed;
         known.was_full = false;
+        known.is_short = false;
         drop(known);
     }
 
@@ -136,18 +147,30 @@ impl SlotPost {
         drop(known);
     }
 
-    /// Up to where the stream has read and was confirmed, and how many of its chunks are free.
-    pub fn report<R: Wait>(&self, rt: &R, read: u64, confirmed: u64, free_chunks: usize) {
+    /// Up to where the stream has read and was confirmed, and how many of so many chunks are free. It answers whether a tenth of them
+    /// isn't any more.
+    pub fn report<R: Wait>(
+        &self,
+        rt: &R,
+        read: u64,
+        confirmed: u64,
+        free_chunks: usize,
+        chunks: usize,
+    ) -> bool {
         let mut known = self.known.lock(rt);
         known.read = read;
         known.free_chunks = free_chunks;
         let before = known.confirmed;
         known.confirmed = before.max(confirmed);
         known.reached = known.reached.max(read).max(confirmed);
+        let was_short = known.is_short;
+        known.is_short = is_short(free_chunks, chunks, was_short);
+        let runs_short = known.is_short && !was_short;
         drop(known);
         if before < confirmed {
             self.moved.notify_all();
         }
+        runs_short
     }
 
     /// A status of the client came.

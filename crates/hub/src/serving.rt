@@ -162,7 +162,7 @@ where
     R: Threads + Wait + Clock + Sync,
 {
     thread::scope(thread::scope_env(), rt, |scope| {
-        let spawned = scope.spawn(|| write(rt, commons, line, socket));
+        let spawned = scope.spawn(|| write(rt, commons, line, gate, number, socket));
         if spawned.is_err() {
             return None;
         }
@@ -196,10 +196,12 @@ fn read<L: LogName + SlotName, G: Gate, R: Wait + Clock>(
     end
 }
 
-fn write<L: LogName + SlotName, R: Wait + Clock>(
+fn write<L: LogName + SlotName, R: Wait + Clock, G: Gate>(
     rt: &R,
     commons: &Commons<L>,
     line: &Line<Box<Stream<L>>>,
+    gate: &G,
+    number: u32,
     socket: &TcpStream,
 ) {
     let write = WriteLoop {
@@ -207,6 +209,8 @@ fn write<L: LogName + SlotName, R: Wait + Clock>(
         commons,
         line,
         socket,
+        gate,
+        number,
     };
     write_line(&write);
 }

@@ -5,7 +5,7 @@ use crate::streaming::Stream;
 use crate::work_desk::WorkDesk;
 use crate::write_loop::{WriteLoop, break_off};
 use bytes::BytesMut;
-use connections::{SlotPost, Work};
+use connections::{Gate, SlotPost, Work};
 use frames::{Back, write_back};
 use server::Phase;
 use shared_log::LogName;
@@ -15,18 +15,18 @@ use std::time::Clock;
 
 /// The connection of a stream, and the post of its slot.
 #[derive(Drop)]
-pub(crate) struct StreamDesk<'h, L: LogName + SlotName, R: Wait> {
-    pub write: WriteLoop<'h, L, R>,
+pub(crate) struct StreamDesk<'h, L: LogName + SlotName, R: Wait, G: Gate> {
+    pub write: WriteLoop<'h, L, R, G>,
     pub post: &'h SlotPost,
 }
 
-impl<'h, L: LogName + SlotName, R: Wait + Clock> WorkDesk<L> for StreamDesk<'h, L, R> {
+impl<'h, L: LogName + SlotName, R: Wait + Clock, G: Gate> WorkDesk<L> for StreamDesk<'h, L, R, G> {
     // The reading thread fills the line in between, so of a call nothing is told.
     ghost told = { λ old work new. Unit {0} };
 
     fn next(&mut self, stream: &mut Stream<L>) -> Work {
         let (write, post) = (&self.write, self.post);
-        report(write.rt, post, stream);
+        report(write, post, stream);
         if post.is_cut(write.rt) {
             inform(write.rt, write.commons, stream);
         } else {
@@ -45,19 +45,28 @@ impl<'h, L: LogName + SlotName, R: Wait + Clock> WorkDesk<L> for StreamDesk<'h, 
     }
 }
 
-/// Tells the post of a stream how far it is.
-pub(crate) fn report<L: LogName + SlotName, R: Wait>(rt: &R, post: &SlotPost, stream: &Stream<L>) {
-    post.report(
-        rt,
+/// Tells the post of a stream how far it is, and the gate where transactions in progress begin to fill its chunks.
+pub(crate) fn report<L: LogName + SlotName, R: Wait, G: Gate>(
+    write: &WriteLoop<'_, L, R, G>,
+    post: &SlotPost,
+    stream: &Stream<L>,
+) {
+    let (free, chunks) = (stream.free_chunks(), write.commons.settings.chunks);
+    let runs_short = post.report(
+        write.rt,
         stream.position(),
         stream.confirmed(),
-        stream.free_chunks(),
+        free,
+        chunks as usize,
     );
+    if runs_short {
+        write.gate.short_of_chunks(write.number, free, chunks);
+    }
 }
 
 /// Adds to the work of a stream what it is told beside it. Where the server ends, what is left is sent, and CopyDone behind it.
-fn steer<L: LogName + SlotName, R: Wait + Clock>(
-    write: &WriteLoop<'_, L, R>,
+fn steer<L: LogName + SlotName, R: Wait + Clock, G: Gate>(
+    write: &WriteLoop<'_, L, R, G>,
     post: &SlotPost,
     work: &mut Work,
 ) {

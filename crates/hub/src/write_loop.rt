@@ -5,7 +5,7 @@ use crate::stream_desk::{StreamDesk, report};
 use crate::stream_loop::{say, write_stream};
 use crate::streaming::Stream;
 use commons::Commons;
-use connections::{ConnectionEnd, Line, Outlet, SlotPost, Tap, Work};
+use connections::{ConnectionEnd, Gate, Line, Outlet, SlotPost, Tap, Work};
 use server::Phase;
 use shared_log::LogName;
 use slots::SlotName;
@@ -15,16 +15,21 @@ use std::time::Clock;
 
 /// What a writing thread is passed.
 #[derive(Drop)]
-pub(crate) struct WriteLoop<'h, L: LogName + SlotName, R: Wait> {
+pub(crate) struct WriteLoop<'h, L: LogName + SlotName, R: Wait, G: Gate> {
     pub rt: &'h R,
     pub commons: &'h Commons<L>,
     pub line: &'h Line<Box<Stream<L>>>,
     pub socket: &'h TcpStream,
+    pub gate: &'h G,
+    /// The connection's number.
+    pub number: u32,
 }
 
 /// Writes what is said, and the streams that begin, until the connection is over; then closes it both ways, so that the
 /// reading thread doesn't wait for more.
-pub(crate) fn write_line<L: LogName + SlotName, R: Wait + Clock>(write: &WriteLoop<'_, L, R>) {
+pub(crate) fn write_line<L: LogName + SlotName, R: Wait + Clock, G: Gate>(
+    write: &WriteLoop<'_, L, R, G>,
+) {
     for _ in write.rt.forever() {
         write.line.await_words(write.rt);
         if let Err(end) = write_step(write) {
@@ -36,8 +41,8 @@ pub(crate) fn write_line<L: LogName + SlotName, R: Wait + Clock>(write: &WriteLo
 }
 
 /// Writes what is said, and, if that began a stream, all of the stream.
-fn write_step<L: LogName + SlotName, R: Wait + Clock>(
-    write: &WriteLoop<'_, L, R>,
+fn write_step<L: LogName + SlotName, R: Wait + Clock, G: Gate>(
+    write: &WriteLoop<'_, L, R, G>,
 ) -> Result<(), ConnectionEnd> {
     let mut work = write.line.take(write.rt);
     say_first(write, &mut work)?;
@@ -50,8 +55,8 @@ fn write_step<L: LogName + SlotName, R: Wait + Clock>(
 }
 
 /// Writes what is said before all else.
-fn say_first<L: LogName + SlotName, R: Wait>(
-    write: &WriteLoop<'_, L, R>,
+fn say_first<L: LogName + SlotName, R: Wait, G: Gate>(
+    write: &WriteLoop<'_, L, R, G>,
     work: &mut Work,
 ) -> Result<(), ConnectionEnd> {
     say(work, &mut outlet(write))?;
@@ -60,8 +65,8 @@ fn say_first<L: LogName + SlotName, R: Wait>(
 }
 
 /// The way to its client.
-fn outlet<'h, L: LogName + SlotName, R: Wait>(
-    write: &WriteLoop<'h, L, R>,
+fn outlet<'h, L: LogName + SlotName, R: Wait, G: Gate>(
+    write: &WriteLoop<'h, L, R, G>,
 ) -> Outlet<'h, Box<Stream<L>>, R> {
     Outlet {
         rt: write.rt,
@@ -71,8 +76,8 @@ fn outlet<'h, L: LogName + SlotName, R: Wait>(
 }
 
 /// The stream that began with what was said, if one did.
-fn stream_of<L: LogName + SlotName, R: Wait>(
-    write: &WriteLoop<'_, L, R>,
+fn stream_of<L: LogName + SlotName, R: Wait, G: Gate>(
+    write: &WriteLoop<'_, L, R, G>,
     work: &Work,
 ) -> Option<Box<Stream<L>>> {
     if work.phase == Phase::Idle || work.phase == Phase::Startup {
@@ -82,8 +87,8 @@ fn stream_of<L: LogName + SlotName, R: Wait>(
 }
 
 /// Writes a stream from its beginning, and answers why it could not be written to its end.
-fn write_whole<L: LogName + SlotName, R: Wait + Clock>(
-    write: &WriteLoop<'_, L, R>,
+fn write_whole<L: LogName + SlotName, R: Wait + Clock, G: Gate>(
+    write: &WriteLoop<'_, L, R, G>,
     mut stream: Box<Stream<L>>,
     work: Work,
 ) -> Result<(), ConnectionEnd> {
@@ -103,8 +108,8 @@ fn write_whole<L: LogName + SlotName, R: Wait + Clock>(
 }
 
 /// Writes a stream that has begun, and answers why it could not be written to its end.
-fn write_begun<L: LogName + SlotName, R: Wait + Clock>(
-    write: &WriteLoop<'_, L, R>,
+fn write_begun<L: LogName + SlotName, R: Wait + Clock, G: Gate>(
+    write: &WriteLoop<'_, L, R, G>,
     post: &SlotPost,
     stream: &mut Stream<L>,
     work: Work,
@@ -114,6 +119,8 @@ fn write_begun<L: LogName + SlotName, R: Wait + Clock>(
         commons,
         line,
         socket,
+        gate,
+        number,
     } = *write;
     post.begin(rt, stream.latch());
     commons.await_release(rt, line, post, stream.latch());
@@ -126,6 +133,8 @@ fn write_begun<L: LogName + SlotName, R: Wait + Clock>(
             commons,
             line,
             socket,
+            gate,
+            number,
         },
         post,
     };
@@ -135,7 +144,7 @@ fn write_begun<L: LogName + SlotName, R: Wait + Clock>(
         outlet: outlet(write),
     };
     let ended = write_stream(rt, &mut desk, &commons.slots, stream, work, &mut tap);
-    report(rt, post, stream);
+    report(&desk.write, post, stream);
     if ended != Err(ConnectionEnd::FullArena) {
         return ended;
     }
@@ -147,7 +156,7 @@ fn write_begun<L: LogName + SlotName, R: Wait + Clock>(
 }
 
 /// Nothing is written any more, and nothing more comes.
-pub(crate) fn break_off<L: LogName + SlotName, R: Wait>(write: &WriteLoop<'_, L, R>) {
+pub(crate) fn break_off<L: LogName + SlotName, R: Wait, G: Gate>(write: &WriteLoop<'_, L, R, G>) {
     write.line.break_off(write.rt);
     let _ = write.socket.shutdown(Shutdown::Both);
 }

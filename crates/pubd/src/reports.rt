@@ -41,6 +41,14 @@ impl<'e, E: Print> Gate for Reports<'e, E> {
         };
     }
 
+    fn short_of_chunks(&self, connection: u32, free: usize, chunks: u32) {
+        if self.level != Level::Error {
+            let _ = self.errors.println(format_args!(
+                "pubd: connection {connection}: {free} of its stream's {chunks} chunks are free: transactions in progress fill the others"
+            ));
+        }
+    }
+
     // What prints takes 3,400 bytes of stack, and so would each connection, from its beginning on.
     #[inline(never)]
     fn ended(&self, connection: u32, why: ConnectionEnd) {
