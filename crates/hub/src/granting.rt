@@ -1,6 +1,7 @@
 //! The streams of a hub: how they begin and end, and what they wait for.
 
 ghost use Rattle.std.specs.Prelude.{◌≡◌};
+ghost use Rattle.hub.specs.Refusals.{ahead_by};
 ghost use Rattle.hub.specs.Streams.{HasLearnt};
 
 use crate::grant::StreamGrant;
@@ -43,12 +44,15 @@ fn ahead_of<L: LogName + SlotName, R: Wait>(
         return None;
     }
     let post = start.commons.post_at(Some(grant.hold.place()))?;
-    let ahead = StartAhead {
-        start: start.position,
-        reached: post.reached(start.rt),
-    };
-    if ahead.reached < ahead.start {
-        Some(ahead)
+    ahead_by(start.position, post.reached(start.rt))
+}
+
+/// That the start lies ahead of what was reached, if it does.
+fn ahead_by(start: u64, reached: u64) -> Option<StartAhead>
+    ensures { result ≡ ahead_by start reached }
+{
+    if reached < start {
+        Some(StartAhead { start, reached })
     } else {
         None
     }
