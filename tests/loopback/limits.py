@@ -54,10 +54,12 @@ def is_closed_while_it_speaks(client):
 
 
 def as_many_are_served_as_may_be(pubd, subcat):
-    """One more is refused by 53300, and doesn't count; where one has gone, the next is served."""
+    """One more is refused by 53300, and doesn't count; where one has gone, the next is served. One more that says nothing is not waited
+    for at the end."""
     wrong, told = [], []
     with Server(pubd, 5, more=["--max-connections", "2", "--log-min-messages", "info"]) as server:
         first, second = (Connection(server.port) for _ in range(2))
+        silent = Connection(server.port, says_nothing=True)
         for _ in range(3):
             wrong += refusal_in_a_crowd(server.port)
             told.append(CROWD)
@@ -69,7 +71,11 @@ def as_many_are_served_as_may_be(pubd, subcat):
             client.socket.sendall(TERMINATE)
             client.close()
             told.append(f"pubd: connection {number} closed by its client")
-        return wrong + server.end(ended=told)
+        begun = time.monotonic()
+        wrong += server.end(ended=told)
+        took = time.monotonic() - begun
+        silent.close()
+        return wrong + [f"it ends {took:.1f} s later"] * (took > LATEST)
 
 
 def refusal_in_a_crowd(port):
@@ -178,8 +184,8 @@ def why_none_is_taken(pubd, what, more, user, due):
 def an_end_is_told_with_its_cause(pubd, subcat):
     """Each once, by what ended it."""
     more = ["--log-min-messages", "info", "--wal-sender-timeout", "1s"]
-    with Server(pubd, 5, more=more) as server:
-        polite, gone, reset, wrong, silent = (Connection(server.port) for _ in range(5))
+    with Server(pubd, 6, more=more) as server:
+        polite, gone, reset, wrong, silent, stalled = (Connection(server.port, receives=4096) for _ in range(6))
         polite.socket.sendall(TERMINATE)
         gone.close()
         reset.create("s0")
@@ -190,7 +196,8 @@ def an_end_is_told_with_its_cause(pubd, subcat):
         silent.start("s1")
         while silent.bytes.read(1):
             pass
-        for client in (polite, wrong, silent):
+        ask_until_it_is_closed(stalled)
+        for client in (polite, wrong, silent, stalled):
             client.close()
         return server.end(
             ended=[
@@ -199,8 +206,18 @@ def an_end_is_told_with_its_cause(pubd, subcat):
                 "pubd: connection 3 closed by its client",
                 "pubd: connection 4 closed: its client sent what no server takes then",
                 "pubd: connection 5 closed: its client was silent for wal_sender_timeout",
+                "pubd: connection 6 closed: its client took nothing for wal_sender_timeout",
             ]
         )
+
+
+def ask_until_it_is_closed(client):
+    """Reading no answer."""
+    try:
+        while True:
+            client.socket.sendall(1000 * framed("51" + b"IDENTIFY_SYSTEM\0".hex()))
+    except ConnectionError:
+        pass
 
 
 def only_what_is_asked_for_is_told(pubd, subcat):

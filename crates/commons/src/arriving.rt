@@ -105,6 +105,8 @@ impl<L: LogName + SlotName> Commons<L> {
     }
 
     /// Hears the connection out that came and is too many, and tells it so.
+    // What that takes isn't on the stack of a connection that is served.
+    #[inline(never)]
     pub fn turn_away<G: Gate, R: Wait + Clock>(
         &self,
         rt: &R,

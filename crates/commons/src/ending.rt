@@ -11,7 +11,7 @@ impl<L: LogName + SlotName> Commons<L> {
     /// connections have ended.
     pub fn shut_down<R: Wait>(&self, rt: &R) {
         self.sockets.end(rt);
-        self.turned_away.end(rt);
+        self.end_crowd(rt);
         for post in &self.posts {
             post.close(rt);
         }
@@ -19,6 +19,11 @@ impl<L: LogName + SlotName> Commons<L> {
             latch.tell_work(rt);
         }
         self.end_awaiting(rt);
+    }
+
+    /// From now on no connection is heard out that is too many.
+    pub fn end_crowd<R: Wait>(&self, rt: &R) {
+        self.turned_away.end(rt);
     }
 
     /// Whether `shut_down` was called.

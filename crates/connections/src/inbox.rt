@@ -145,7 +145,7 @@ impl Inbox {
         ensures { (result ≡ true)
             ↔ ((self.now.phase ≡ Phase.Streaming) × (self.now.said.items ≡ [])) }
     {
-        self.phase == Phase::Streaming && self.said.is_empty()
+        self.said.is_empty() && self.phase == Phase::Streaming
     }
 
     /// Whether the reading thread has to wait before it says more.

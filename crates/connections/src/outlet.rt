@@ -25,18 +25,18 @@ impl<'h, S, R: Wait> Outlet<'h, S, R> {
         };
         match fault.kind() {
             ErrorKind::Interrupted => true,
-            ErrorKind::WouldBlock => self.is_heard(),
+            ErrorKind::WouldBlock => self.waits_on(),
             _ => false,
         }
     }
 
-    /// Whether the client that takes nothing is listened to. It is lost where it isn't.
-    fn is_heard(&self) -> bool {
-        let is_heard = self.line.is_heard(self.rt);
-        if !is_heard {
+    /// Whether a client that takes nothing is waited for; else it is lost.
+    fn waits_on(&self) -> bool {
+        let waits_on = self.line.is_heard(self.rt);
+        if !waits_on {
             self.line.end_early(self.rt, ConnectionEnd::Stalled);
         }
-        is_heard
+        waits_on
     }
 }
 

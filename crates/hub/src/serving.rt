@@ -20,9 +20,10 @@ use std::time::Clock;
 ///
 /// A connection counts once both of its threads run. One that can't have them, or comes where `max_connections` are served, is
 /// told so (53300) and closed, and the gate is told why; so it is where the listener can't give one for now. Then the next is
-/// taken. One too many is told so once its startup has come, for which it has a thread, where not too many have. A failed read or write ends its connection alone, and the gate is told how each has ended. An error means that the
-/// listener gives no more; it is answered once the connections that were taken have ended. Behind `Hub::shut_down` none is taken,
-/// and the next that comes is closed without a word.
+/// taken. One too many is heard out by a thread of its own before it is told, as long as few are. A failed read or write ends its
+/// connection alone, and the gate is told how each has ended. An error means that the listener gives no more; it is answered once
+/// the connections that were taken have ended. Behind `Hub::shut_down` none is taken, and the next that comes is closed without a
+/// word.
 pub fn serve<L, G, R>(
     rt: &R,
     listener: &TcpListener,
@@ -39,30 +40,65 @@ where
     let arrival = Arrival::new();
     let shared = &arrival;
     thread::scope(thread::scope_env(), rt, |scope| {
-        let mut taken = 0;
-        let mut turned_away: u32 = 0;
+        let mut ended = Ok(());
+        let mut taken = Taken::nobody();
         for _ in rt.forever() {
-            if connections <= taken || commons.is_ending() {
+            if connections <= taken.served || commons.is_ending() {
                 break;
             }
-            let Some(place) = commons.arrives(rt, listener, gate, shared)? else {
-                continue;
-            };
-            let number = match place {
-                Place::Served => taken + 1,
-                Place::Crowd => turned_away,
-            };
-            let spawned = scope.spawn(move || connect(rt, commons, gate, place, number, shared));
-            if !commons.has_threads(rt, gate, shared, place, spawned.is_ok()) {
-                continue;
-            }
-            match place {
-                Place::Served => taken = number,
-                Place::Crowd => turned_away = number.wrapping_add(1),
+            match commons.arrives(rt, listener, gate, shared) {
+                Ok(Some(place)) => {
+                    let number = taken.next(place);
+                    let spawned = scope.spawn(move || connect(
+                        rt, commons, gate, place, number, shared,
+                    ));
+                    if commons.has_threads(rt, gate, shared, place, spawned.is_ok()) {
+                        taken.count(place);
+                    }
+                }
+                Ok(None) => {}
+                Err(fault) => {
+                    ended = Err(fault);
+                    break;
+                }
             }
         }
-        Ok(())
+        commons.end_crowd(rt);
+        ended
     })
+}
+
+/// How many connections were taken, by what has become of them.
+#[derive(Clone, Copy)]
+struct Taken {
+    served: u32,
+    turned_away: u32,
+}
+
+impl Taken {
+    fn nobody() -> Self {
+        Taken {
+            served: 0,
+            turned_away: 0,
+        }
+    }
+
+    /// The number of the next one: each kind is counted from 1.
+    fn next(&self, place: Place) -> u32 {
+        match place {
+            Place::Served => self.served.wrapping_add(1),
+            Place::Crowd => self.turned_away.wrapping_add(1),
+        }
+    }
+
+    /// The next one was taken.
+    fn count(&mut self, place: Place) {
+        let number = self.next(place);
+        match place {
+            Place::Served => self.served = number,
+            Place::Crowd => self.turned_away = number,
+        }
+    }
 }
 
 /// Serves the connection that arrived, or turns it away, and closes its socket. Where it can't be served, it goes back.
