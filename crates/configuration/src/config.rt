@@ -4,9 +4,10 @@ ghost use Rattle.std.specs.Prelude.{◌≡◌};
 ghost use Rattle.toml.specs.View.{view};
 ghost use Rattle.configuration.specs.Config.{IsServer, Names, ReadsSetting, named_by, setting_in};
 
+use crate::columns::{KINDS, Untyped, untyped_column};
 use crate::config_fault::ConfigFault;
 use crate::server::{Server, server_of};
-use catalog::{Catalog, CatalogFault, read_document};
+use catalog::{Catalog, CatalogFault, Member, Misfit, read_document};
 use publication::{PubFault, Publications};
 use std::alloc::{AllocError, Global};
 use std::marker::Model;
@@ -43,11 +44,14 @@ impl Model for Config {
 }
 
 /// Why the text is no configuration, in lines for whoever wrote it. A fault of publications is told with their names, a filter that
-/// is none with a mark under the byte at fault, and of a text that is no TOML what stopped its reader.
+/// is none with a mark under the byte at fault, of a text that is no TOML what stopped its reader, and a column of no type by its name.
 pub fn explained(alloc: Global, text: &str, fault: &ConfigFault) -> Result<String, AllocError> {
     match fault {
         ConfigFault::Publications(why) => of_publications(alloc, text, fault, *why),
         ConfigFault::Catalog(CatalogFault::NotToml(_)) => of_reader(alloc, text, fault),
+        ConfigFault::Catalog(CatalogFault::BadTables(Misfit::Table(table, Member::Columns))) => {
+            of_columns(alloc, text, fault, *table)
+        }
         _ => fault.to_string(alloc),
     }
 }
@@ -64,6 +68,34 @@ fn of_publications(
         }
     }
     fault.to_string(alloc)
+}
+
+/// The fault, and the column whose type there isn't, with those that there are, unless a line can't show it.
+fn of_columns(
+    alloc: Global,
+    text: &str,
+    fault: &ConfigFault,
+    table: usize,
+) -> Result<String, AllocError> {
+    let mut line = fault.to_string(alloc)?;
+    if let Ok(document) = read_document(alloc, text) {
+        if let Some(column) = untyped_column(&document, table) {
+            push_untyped(&mut line, &column)?;
+        }
+    }
+    Ok(line)
+}
+
+fn push_untyped(line: &mut String, column: &Untyped<'_>) -> Result<(), AllocError> {
+    if !is_shown(column.name) || !is_shown(column.kind) {
+        return Ok(());
+    }
+    line.push_str(": ")?;
+    line.push_str(column.name)?;
+    line.push_str(" has the type ")?;
+    line.push_str(column.kind)?;
+    line.push_str(", and there are ")?;
+    line.push_str(KINDS)
 }
 
 /// The fault, what the reader of TOML says of it, and the word at which it stopped, as of a key that is given twice.
@@ -83,13 +115,17 @@ fn of_reader(alloc: Global, text: &str, fault: &ConfigFault) -> Result<String, A
 /// The word at which the reader stopped, unless it is none that a line can show.
 fn word_at<'t>(text: &'t str, why: &toml::de::Error) -> Option<&'t str> {
     let word = text.get(why.span()?)?;
-    if word.is_empty()
-        || MOST_SHOWN < word.len()
-        || word.bytes().any(|byte| byte.is_ascii_control())
-    {
-        return None;
+    match is_shown(word) {
+        true => Some(word),
+        false => None,
     }
-    Some(word)
+}
+
+/// Whether a line can show the word.
+fn is_shown(word: &str) -> bool {
+    !word.is_empty()
+        && word.len() <= MOST_SHOWN
+        && !word.bytes().any(|byte| byte.is_ascii_control())
 }
 
 impl Config {

@@ -5,6 +5,7 @@
 //! The form of a configuration is told in docs/CONFIGURATION.md.
 #![tactic(auto)]
 
+mod columns;
 mod config;
 mod config_fault;
 mod file;
