@@ -8,6 +8,7 @@ mod fault;
 mod help;
 mod level;
 mod reports;
+mod scripting;
 mod scripts;
 mod status_page;
 mod status_text;
