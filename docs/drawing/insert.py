@@ -37,7 +37,7 @@ def steps(top):
     row = line[line.index("(") :]
     return [
         ("a session's thread", "under the publisher's lock", [
-            ("scripting schedule hub", "A line of a script, or a call of the library", [Code(line)], ""),
+            ("pubd schedule hub", "A line of a script, or a call of the library", [Code(line)], ""),
             ("txlog store tables", "The table takes the row; its key is held", [Code(f"public.item {row}"), "key 1 held by transaction 700"], REFUSED),
             ("txlog wal shared_log", "One Change goes to the end of the log", map(Code, RECORD), ""),
         ]),

@@ -12,7 +12,7 @@ pub enum WordsFault {
     Arguments(io::Error),
     #[error("{0}")]
     Usage(#[from] clap::Error),
-    #[error("ADDR is an address and a port, as in 127.0.0.1:5433")]
+    #[error("ADDR is an address, or localhost, and a port, as in 127.0.0.1:5433")]
     Address,
     #[error("out of memory")]
     Memory(#[from(alloc)] AllocError),

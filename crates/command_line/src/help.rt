@@ -21,6 +21,7 @@ A configuration names the server, the tables and their publications, as in
   identity = 'default'
   key = ['id']
   columns = [['id', 'int4'], ['name', 'text'], ['qty', 'int8']]
+  # a column's kind is bool, int2, int4, int8, text or uuid
 
   [[publication]]
   name = 'p'

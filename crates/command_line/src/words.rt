@@ -5,6 +5,12 @@ use clap::{Arg, ArgAction, ArgMatches, Command};
 use std::alloc::{AllocError, Global};
 use std::net::SocketAddr;
 
+/// What `--version` tells behind the program's name.
+const VERSION: &str = "(Vondahe) 0.1";
+
+/// In the place of an address, this machine's own.
+const THIS_MACHINE: &str = "localhost:";
+
 /// A program's name, what it is for, what is told behind its words, and its words.
 #[derive(Clone, Copy)]
 pub struct CommandLine<'a> {
@@ -51,6 +57,7 @@ impl<'a> CommandLine<'a> {
         Command::new(alloc, self.name)
             .about(self.about)
             .after_help(self.after_help)
+            .version(VERSION)
             .bin_name(self.name)
     }
 }
@@ -79,6 +86,12 @@ fn arg_of<'a>(alloc: Global, word: &Word<'a>) -> Arg<'a> {
 
 /// The address and the port of the word ADDR.
 pub fn address_of(text: &str) -> Result<SocketAddr, WordsFault> {
+    if let Some(port) = text.strip_prefix(THIS_MACHINE) {
+        return match port.parse::<u16>() {
+            Ok(port) if !text.contains('+') => Ok(SocketAddr::from(([127, 0, 0, 1], port))),
+            _ => Err(WordsFault::Address),
+        };
+    }
     match text.parse::<SocketAddr>() {
         Ok(address) => Ok(address),
         Err(_) => Err(WordsFault::Address),

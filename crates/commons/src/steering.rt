@@ -6,21 +6,32 @@ use connections::{Rein, SlotPost};
 use shared_log::LogName;
 use slots::SlotName;
 use std::sync::Wait;
+use std::time::{Clock, Duration};
 
 impl<L: LogName + SlotName> Commons<L> {
-    /// Waits until the slot of this name is confirmed at this position or further. L1 where there is none, or it is dropped, or the
-    /// server ends meanwhile.
-    pub fn await_confirmed<R: Wait>(
+    /// Waits until the slot of this name is confirmed at this position or further, for so long at most, and answers whether it is.
+    /// L1 where there is none, or it is dropped, or the server ends meanwhile.
+    pub fn await_confirmed<R: Wait + Clock>(
         &self,
         rt: &R,
         slot: &str,
         position: u64,
-    ) -> Result<(), SteerFault> {
-        if self.post_of(rt, slot)?.await_confirmed(rt, position) {
-            Ok(())
-        } else {
-            Err(SteerFault::Missing)
-        }
+        patience: Duration,
+    ) -> Result<bool, SteerFault> {
+        let post = self.post_of(rt, slot)?;
+        post.await_confirmed(rt, position, patience)
+            .ok_or(SteerFault::Missing)
+    }
+
+    /// The same until a stream of the slot runs.
+    pub fn await_stream<R: Wait + Clock>(
+        &self,
+        rt: &R,
+        slot: &str,
+        patience: Duration,
+    ) -> Result<bool, SteerFault> {
+        let post = self.post_of(rt, slot)?;
+        post.await_stream(rt, patience).ok_or(SteerFault::Missing)
     }
 
     /// Nothing of the slot's stream is written any more, nor of those that come, until it is let go; statuses are read all the same.

@@ -6,7 +6,7 @@ use crate::frame_walk::FrameWalk;
 use crate::reins::{Rein, Reins};
 use pqformat::Text;
 use std::alloc::{AllocError, Global};
-use std::sync::{Condvar, Mutex, Wait};
+use std::sync::{Condvar, Mutex, MutexGuard, Wait};
 use std::time::{Clock, Duration};
 
 /// What is known of the slot at one place, and how its stream is steered. What it knows is told to it: the slot itself is asked only
@@ -14,7 +14,7 @@ use std::time::{Clock, Duration};
 #[derive(Drop)]
 pub struct SlotPost {
     known: Mutex<KnownSlot>,
-    /// The slot was confirmed further, or dropped, or its stream has ended.
+    /// The slot was confirmed further, or dropped, or a stream of it has begun or ended.
     moved: Condvar,
 }
 
@@ -145,6 +145,7 @@ impl SlotPost {
         known.walk = FrameWalk::new();
         known.was_cut = false;
         drop(known);
+        self.moved.notify_all();
     }
 
     /// Up to where the stream has read and was confirmed, and how many of so many chunks are free. It answers whether a tenth of them
@@ -264,14 +265,30 @@ impl SlotPost {
         latch
     }
 
-    /// Waits until the slot is confirmed at this position or further, and answers true; false: it was dropped, or the server ends.
-    pub fn await_confirmed<R: Wait>(&self, rt: &R, position: u64) -> bool {
-        let known = self.moved.wait_while(rt, self.known.lock(rt), |known| {
+    /// Waits until the slot is confirmed at this position or further, for so long at most, and answers whether it is. None: it was
+    /// dropped, or the server ends.
+    pub fn await_confirmed<R: Wait + Clock>(
+        &self,
+        rt: &R,
+        position: u64,
+        patience: Duration,
+    ) -> Option<bool> {
+        let known = self.known.lock(rt);
+        let (known, _) = self.moved.wait_timeout_while(rt, known, patience, |known| {
             known.is_open && known.confirmed < position
         });
-        let is_open = known.is_open;
-        drop(known);
-        is_open
+        let is_met = position <= known.confirmed;
+        if_open(known, is_met)
+    }
+
+    /// The same until a stream of the slot runs.
+    pub fn await_stream<R: Wait + Clock>(&self, rt: &R, patience: Duration) -> Option<bool> {
+        let known = self.known.lock(rt);
+        let (known, _) = self.moved.wait_timeout_while(rt, known, patience, |known| {
+            known.is_open && known.latch.is_none()
+        });
+        let is_met = known.latch.is_some();
+        if_open(known, is_met)
     }
 
     /// Waits for so long at most, until no stream of the slot is written, or it is dropped, or the server ends.
@@ -296,4 +313,11 @@ impl SlotPost {
     pub fn look<R: Wait>(&self, rt: &R, alloc: Global) -> Result<Option<KnownSlot>, AllocError> {
         self.known.lock(rt).copy(alloc)
     }
+}
+
+/// Whether it is so, where the slot is there.
+fn if_open(known: MutexGuard<'_, KnownSlot>, is_met: bool) -> Option<bool> {
+    let is_open = known.is_open;
+    drop(known);
+    if is_open { Some(is_met) } else { None }
 }

@@ -7,7 +7,7 @@ use shared_log::LogName;
 use slots::SlotName;
 use std::alloc::{AllocError, Global};
 use std::sync::{Mutex, Wait};
-use std::time::Clock;
+use std::time::{Clock, Duration};
 use txlog::{Publisher, Receipt, SessionFault};
 
 /// What the connections of a publisher share: its log and rows, its slots, its publications, and what commits and notes tell.
@@ -95,15 +95,26 @@ impl<L: LogName + SlotName> Hub<L> {
 
     // ---- how streams are steered on purpose, as tests of their clients need it
 
-    /// Waits until the slot of this name is confirmed at this position or further. L1 where there is none, or it is dropped, or the
-    /// server ends meanwhile.
-    pub fn await_confirmed<R: Wait>(
+    /// Waits until the slot of this name is confirmed at this position or further, for so long at most, and answers whether it is.
+    /// L1 where there is none, or it is dropped, or the server ends meanwhile.
+    pub fn await_confirmed<R: Wait + Clock>(
         &self,
         rt: &R,
         slot: &str,
         position: u64,
-    ) -> Result<(), SteerFault> {
-        self.commons.await_confirmed(rt, slot, position)
+        patience: Duration,
+    ) -> Result<bool, SteerFault> {
+        self.commons.await_confirmed(rt, slot, position, patience)
+    }
+
+    /// The same until a stream of the slot runs.
+    pub fn await_stream<R: Wait + Clock>(
+        &self,
+        rt: &R,
+        slot: &str,
+        patience: Duration,
+    ) -> Result<bool, SteerFault> {
+        self.commons.await_stream(rt, slot, patience)
     }
 
     /// Nothing of the slot's stream is written any more, nor of those that come, until it is let go; statuses are read all the same.

@@ -1,10 +1,10 @@
 //! Why the program served nothing, or not to its end, and with which status it then ends.
 
 use crate::command_fault::CommandFault;
+use crate::scripting::ScriptFileFault;
 use command_line::{Ending, WordsFault};
 use configuration::ConfigFileFault;
 use hub::HubFault;
-use scripting::ScriptFileFault;
 use std::alloc::AllocError;
 use std::io;
 use thiserror::Error;

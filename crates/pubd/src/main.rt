@@ -10,6 +10,7 @@ mod level;
 mod naming;
 mod questions;
 mod reports;
+mod scripting;
 mod scripts;
 mod status_page;
 mod status_text;

@@ -1,8 +1,8 @@
 //! The scripts that run beside the connections, each on a thread of its own.
 
 use crate::ending::{Doors, end_server};
+use crate::scripting::{Script, ScriptEnd, ScriptFault, run_steps};
 use hub::Hub;
-use scripting::{Script, ScriptEnd, ScriptFault, run_steps};
 use shared_log::LogName;
 use slots::SlotName;
 use std::io::Print;

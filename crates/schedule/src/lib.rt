@@ -7,8 +7,10 @@
 #![tactic(auto)]
 
 mod answer;
+mod bad_line;
 mod calls;
 mod codes;
+mod escapes;
 mod event;
 mod fault;
 mod fields;
@@ -22,6 +24,7 @@ mod sessions;
 mod start_options;
 
 pub use answer::Answer;
+pub use bad_line::{BadLine, Dialect, LineRefusal};
 pub use event::{ConnectionStep, Event, Literal, SessionStep};
 pub use fault::{BadEvent, WorldFault};
 pub use report::{write_refusals, write_slot, write_stream, write_subscriber};

@@ -1,5 +1,6 @@
 //! Lines of a schedule, read as events.
 
+use crate::bad_line::{BadLine, Dialect, LineRefusal};
 use crate::event::{ConnectionStep, Event, SessionStep};
 use crate::fault::WorldFault;
 use crate::fields::Fields;
@@ -10,7 +11,16 @@ impl Event {
     /// The event that a line of a schedule spells; the line end is not part of the line. V1 where the text is no such
     /// line, V2 where there was no memory for the event.
     pub fn parse(alloc: Global, line: &str) -> Result<Event, WorldFault> {
-        let mut fields = Fields::new(line);
+        match Event::read(alloc, line, Dialect::Schedule) {
+            Ok(event) => Ok(event),
+            Err(LineRefusal::Bad(_)) => Err(WorldFault::BadEvent),
+            Err(LineRefusal::Memory) => Err(WorldFault::Memory),
+        }
+    }
+
+    /// The same of a line of this dialect, with what is wrong with it.
+    pub fn read(alloc: Global, line: &str, dialect: Dialect) -> Result<Event, LineRefusal> {
+        let mut fields = Fields::new(line, dialect);
         let word = fields.word()?;
         let event = event_of(alloc, word, &mut fields)?;
         match fields.end() {
@@ -24,7 +34,7 @@ impl Event {
 }
 
 /// The event whose line begins with this word. Each names a transaction or a connection next, but for a new slot's and a note's.
-fn event_of(alloc: Global, word: &str, fields: &mut Fields<'_>) -> Result<Event, WorldFault> {
+fn event_of(alloc: Global, word: &str, fields: &mut Fields<'_>) -> Result<Event, LineRefusal> {
     if word == "slot" {
         return Ok(Event::Slot(fields.slot(alloc)?));
     }
@@ -43,7 +53,7 @@ fn session_step_of(
     alloc: Global,
     word: &str,
     fields: &mut Fields<'_>,
-) -> Result<Option<SessionStep>, WorldFault> {
+) -> Result<Option<SessionStep>, LineRefusal> {
     let step = match word {
         "begin" => SessionStep::Begin,
         "insert" => insert(alloc, fields)?,
@@ -66,7 +76,7 @@ fn connection_step_of(
     alloc: Global,
     word: &str,
     fields: &mut Fields<'_>,
-) -> Result<ConnectionStep, WorldFault> {
+) -> Result<ConnectionStep, LineRefusal> {
     match word {
         "start" => start(alloc, fields),
         "read" => read(fields),
@@ -77,42 +87,42 @@ fn connection_step_of(
         "flushed" => Ok(ConnectionStep::Flushed(fields.number()?)),
         "ack" => Ok(ConnectionStep::Ack),
         "cut" => Ok(ConnectionStep::Cut),
-        _ => Err(WorldFault::BadEvent),
+        _ => Err(LineRefusal::Bad(BadLine::Word)),
     }
 }
 
-fn insert(alloc: Global, fields: &mut Fields<'_>) -> Result<SessionStep, WorldFault> {
+fn insert(alloc: Global, fields: &mut Fields<'_>) -> Result<SessionStep, LineRefusal> {
     let table = fields.text(alloc)?;
     let row = fields.row(alloc)?;
     Ok(SessionStep::Insert(table, row))
 }
 
-fn update(alloc: Global, fields: &mut Fields<'_>) -> Result<SessionStep, WorldFault> {
+fn update(alloc: Global, fields: &mut Fields<'_>) -> Result<SessionStep, LineRefusal> {
     let table = fields.text(alloc)?;
     let key = fields.row(alloc)?;
     let row = fields.row(alloc)?;
     Ok(SessionStep::Update(table, key, row))
 }
 
-fn delete(alloc: Global, fields: &mut Fields<'_>) -> Result<SessionStep, WorldFault> {
+fn delete(alloc: Global, fields: &mut Fields<'_>) -> Result<SessionStep, LineRefusal> {
     let table = fields.text(alloc)?;
     let key = fields.row(alloc)?;
     Ok(SessionStep::Delete(table, key))
 }
 
-fn message(alloc: Global, fields: &mut Fields<'_>) -> Result<SessionStep, WorldFault> {
+fn message(alloc: Global, fields: &mut Fields<'_>) -> Result<SessionStep, LineRefusal> {
     let prefix = fields.quoted(alloc)?;
     let content = fields.quoted(alloc)?;
     Ok(SessionStep::Message(prefix, content))
 }
 
-fn note(alloc: Global, fields: &mut Fields<'_>) -> Result<Event, WorldFault> {
+fn note(alloc: Global, fields: &mut Fields<'_>) -> Result<Event, LineRefusal> {
     let prefix = fields.quoted(alloc)?;
     let content = fields.quoted(alloc)?;
     Ok(Event::Note(prefix, content))
 }
 
-fn start(alloc: Global, fields: &mut Fields<'_>) -> Result<ConnectionStep, WorldFault> {
+fn start(alloc: Global, fields: &mut Fields<'_>) -> Result<ConnectionStep, LineRefusal> {
     let slot = fields.text(alloc)?;
     let position = fields.position()?;
     let options = StartOptions {
@@ -122,7 +132,7 @@ fn start(alloc: Global, fields: &mut Fields<'_>) -> Result<ConnectionStep, World
     Ok(ConnectionStep::Start(slot, position, options))
 }
 
-fn read(fields: &mut Fields<'_>) -> Result<ConnectionStep, WorldFault> {
+fn read(fields: &mut Fields<'_>) -> Result<ConnectionStep, LineRefusal> {
     let max = fields.count()?;
     let clock = fields.integer()?;
     Ok(ConnectionStep::Read(max, clock))

@@ -1,7 +1,7 @@
 use Rattle.std.proofs.sync.atomic.AtomicBool.TheSendSync as flag
 use Rattle.hub.proofs.Crossing.{crosses}
 use Rattle.pubd.proofs.ending.Doors.TheSendSync as doors
-use Rattle.scripting.proofs.file.Script.TheSendSync as script
+use Rattle.pubd.proofs.scripting.file.Script.TheSendSync as script
 use Rattle.pubd.proofs.scripts.fn.run_all.scope.Goals as goal
 
 pub spawn-spawned-requires-send-F : goal.spawn-spawned-requires-send-F

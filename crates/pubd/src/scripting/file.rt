@@ -1,7 +1,7 @@
 //! Scripts in files.
 
-use crate::fault::ScriptFileFault;
-use crate::numbered_steps::Steps;
+use crate::scripting::fault::ScriptFileFault;
+use crate::scripting::numbered_steps::Steps;
 use schedule::{LineFault, WorldFault};
 use std::alloc::{AllocError, Global};
 use std::fs;

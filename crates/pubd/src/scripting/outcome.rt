@@ -1,6 +1,6 @@
 //! What comes of the lines of a script, and how it is told.
 
-use crate::fault::ScriptFault;
+use crate::scripting::fault::ScriptFault;
 use replcmd::write_position;
 use schedule::WorldFault;
 use std::alloc::{AllocError, Global};

@@ -1,11 +1,11 @@
 //! Lines from outside: done as they come, and answered one by one.
 
-use crate::done::do_step;
-use crate::fault::ScriptFault;
-use crate::leaving::leave_all;
-use crate::outcome::{Done, answer};
-use crate::step::Step;
-use crate::steps::ScriptEnd;
+use crate::scripting::done::do_step;
+use crate::scripting::fault::ScriptFault;
+use crate::scripting::leaving::leave_all;
+use crate::scripting::outcome::{Done, answer};
+use crate::scripting::step::Step;
+use crate::scripting::steps::ScriptEnd;
 use hub::Hub;
 use schedule::Sessions;
 use shared_log::LogName;

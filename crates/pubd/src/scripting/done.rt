@@ -1,7 +1,7 @@
 //! How a step is done beside connections.
 
-use crate::outcome::Done;
-use crate::step::{Steering, Step};
+use crate::scripting::outcome::Done;
+use crate::scripting::step::{Steering, Step};
 use hub::{Hub, SteerFault};
 use schedule::{Answer, Event, SessionStep, Sessions};
 use shared_log::LogName;

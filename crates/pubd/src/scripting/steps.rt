@@ -1,10 +1,10 @@
 //! Scripts that steer streams beside what sessions do.
 
-use crate::done::do_step;
-use crate::fault::ScriptFault;
-use crate::leaving::leave_all;
-use crate::numbered_steps::Steps;
-use crate::outcome::{Done, tell};
+use crate::scripting::done::do_step;
+use crate::scripting::fault::ScriptFault;
+use crate::scripting::leaving::leave_all;
+use crate::scripting::numbered_steps::Steps;
+use crate::scripting::outcome::{Done, tell};
 use hub::Hub;
 use schedule::Sessions;
 use shared_log::LogName;

@@ -1,6 +1,5 @@
 //! Scripts beside the connections of a hub: lines of sessions, one after the other, each under the publisher's lock, lines that
 //! steer streams, and the one that ends the server; in files of their own, and what comes of them.
-#![tactic(auto)]
 
 mod done;
 mod fault;

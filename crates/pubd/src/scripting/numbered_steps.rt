@@ -1,6 +1,6 @@
 //! Scripts: the steps of their lines.
 
-use crate::step::Step;
+use crate::scripting::step::Step;
 use schedule::{LineFault, WorldFault};
 use std::alloc::Global;
 
