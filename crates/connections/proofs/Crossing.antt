@@ -43,7 +43,7 @@ known_send = declared_send known.the_type (
   search sendable,
   (
     search (text.the_send, sendable) depth 10,
-    (search sendable, (search sendable depth 10, (search sendable, (search sendable, (search sendable, (search sendable, (search sendable depth 20, (search sendable depth 10, (search sendable depth 20, (search sendable, tt)))))))))),
+    (search sendable, (search sendable depth 10, (search sendable, (search sendable, (search sendable, (search sendable, (search sendable, (search sendable depth 20, (search sendable depth 10, (search sendable depth 20, (search sendable, (search sendable, (search sendable, tt))))))))))))),
   ),
 )
 

@@ -45,7 +45,7 @@ module _ (L : RattleType) (s : slot_name.Ghosts L.Denot) (l : log_name.Ghosts L.
   walsender_send = declared_send (walsender.the_type L l) (sender_send, (reader.the_send L l, tt))
 
   stream_send : IsSend (stream.the_row L s l)
-  stream_send = declared_send (stream.the_type L s l) (search sendable, (walsender_send, (hold_send L s, (search sendable, (search sendable, (search sendable, (search sendable, tt)))))))
+  stream_send = declared_send (stream.the_type L s l) (search sendable, (walsender_send, (hold_send L s, (search sendable, (search sendable, (search sendable, (search sendable, (search sendable, tt))))))))
 
   -- a stream in memory of its own
   abbrev begun : RattleType
