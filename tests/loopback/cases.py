@@ -32,6 +32,7 @@ from json_lines import (
     lines_of_json_tell_what_a_server_sends,
 )
 from limits import (
+    a_column_of_no_type_is_named,
     a_place_is_never_used_again,
     a_refusal_is_told_with_what_was_asked,
     a_refusal_names_its_slot,
@@ -381,6 +382,7 @@ ALL = [
     a_refusal_names_its_slot,
     a_place_is_never_used_again,
     a_word_that_is_none_is_told,
+    a_column_of_no_type_is_named,
     acknowledgements_follow_what_was_printed,
     messages_are_asked_for_by_an_option,
     questions_are_answered_where_they_may_be,
