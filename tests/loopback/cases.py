@@ -34,6 +34,7 @@ from json_lines import (
 )
 from limits import (
     a_client_too_many_is_heard_out,
+    a_column_of_no_type_is_named,
     a_place_is_never_used_again,
     a_refusal_is_told_with_what_was_asked,
     a_refusal_names_its_slot,
@@ -411,6 +412,7 @@ ALL = [
     a_refusal_names_its_slot,
     a_place_is_never_used_again,
     a_word_that_is_none_is_told,
+    a_column_of_no_type_is_named,
     acknowledgements_follow_what_was_printed,
     messages_are_asked_for_by_an_option,
     questions_are_answered_where_they_may_be,

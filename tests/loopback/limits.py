@@ -3,6 +3,7 @@ import os
 import shutil
 import struct
 import subprocess
+import tempfile
 import time
 
 from asking import wrong_texts
@@ -328,4 +329,26 @@ def a_word_that_is_none_is_told(pubd, subcat):
         ran = subprocess.run([program, *words], capture_output=True, text=True, timeout=60)
         came = ran.returncode, ran.stdout, ran.stderr
         wrong += [f"{words[0]} {words[-1]}: it ends with {came}"] * (came != (2, "", f"{due}\n"))
+    return wrong
+
+
+def a_column_of_no_type_is_named(pubd, subcat):
+    """With the types that there are, in one line; where a line can't show it, as any other fault of columns."""
+    wrong, text = [], CONFIGURATION.read_text()
+    plain = "pubd: in the configuration: N1: table 1 wants columns: a list of 1 to 64 pairs of a name and a type, each name once"
+    cases = [
+        ('["qty", "int8"]', '["qty", "bigint"]', ": qty has the type bigint, and there are bool, int2, int4, int8, text and uuid"),
+        ('["qty", "int8"]', '["qty", "Int8"], ["more", "x"]', ": qty has the type Int8, and there are bool, int2, int4, int8, text and uuid"),
+        ('["qty", "int8"]', '["qty", "a\\nb"]', ""),
+        ('["qty", "int8"]', '["qty", "' + "x" * 101 + '"]', ""),
+        ('["qty", "int8"]', '["qty"]', ""),
+        ('["qty", "int8"]', '["name", "text"]', ""),
+    ]
+    for was, column, due in cases:
+        with tempfile.NamedTemporaryFile("w", suffix=".toml") as file:
+            file.write(text.replace(was, column))
+            file.flush()
+            ran = subprocess.run([pubd, file.name, "127.0.0.1:0", "0"], capture_output=True, text=True, timeout=60)
+        came = ran.returncode, ran.stdout, ran.stderr
+        wrong += [f"of {column} it ends with {came}"] * (came != (2, "", f"{plain}{due}\n"))
     return wrong
