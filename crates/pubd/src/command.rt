@@ -8,7 +8,7 @@ use command_line::{CommandLine, Word, WordForm, WordsFault};
 use std::alloc::{AllocError, Global};
 
 /// The words: those that may be left out, those that have to be there, and scripts.
-const WORDS: [Word<'static>; 11] = [
+const WORDS: [Word<'static>; 12] = [
     Word {
         name: "await-streams",
         form: WordForm::Option("N"),
@@ -45,6 +45,11 @@ const WORDS: [Word<'static>; 11] = [
         help: "Answer what CREATE SUBSCRIPTION and pg_recvlogical ask beside the commands of replication, and call the server 13.0 for them",
     },
     Word {
+        name: "keep-serving",
+        form: WordForm::Flag,
+        help: "Serve on where the standard input ends, with forever and -",
+    },
+    Word {
         name: "CONFIG",
         form: WordForm::Required,
         help: "A TOML file with the server, the tables and their publications",
@@ -52,7 +57,7 @@ const WORDS: [Word<'static>; 11] = [
     Word {
         name: "ADDR",
         form: WordForm::Required,
-        help: "The address and port to listen at, as in 127.0.0.1:5433",
+        help: "The address and port to listen at, as in 127.0.0.1:5433 or localhost:5433",
     },
     Word {
         name: "CONNECTIONS",
@@ -104,6 +109,7 @@ fn words_in<'a>(alloc: Global, matches: &ArgMatches<'a>) -> Result<Words<'a>, Al
         messages: matches.get_str("log-min-messages"),
         status: matches.get_str("status"),
         answers_postgresql: matches.get_flag("answer-postgresql"),
+        keeps_serving: matches.get_flag("keep-serving"),
         scripts: scripts_in(alloc, matches)?,
     })
 }

@@ -26,6 +26,7 @@ pub struct Words<'a> {
     pub(crate) messages: Option<&'a str>,
     pub(crate) status: Option<&'a str>,
     pub(crate) answers_postgresql: bool,
+    pub(crate) keeps_serving: bool,
     pub scripts: Vec<&'a str>,
 }
 
@@ -43,6 +44,8 @@ pub struct Numbers {
     pub authentication_timeout: Option<Duration>,
     pub max_connections: Option<u32>,
     pub answers_postgresql: bool,
+    /// Whether the end of the standard input is that of the server, where lines come from there.
+    pub ends_with_input: bool,
 }
 
 impl<'a> Words<'a> {
@@ -63,6 +66,7 @@ impl<'a> Words<'a> {
             authentication_timeout: self.authentication_timeout()?,
             max_connections: self.max_connections()?,
             answers_postgresql: self.answers_postgresql,
+            ends_with_input: self.connections == FOREVER && !self.keeps_serving,
         })
     }
 
@@ -70,7 +74,7 @@ impl<'a> Words<'a> {
         let Some(text) = self.status else {
             return Ok(None);
         };
-        match text.parse::<SocketAddr>() {
+        match address_of(text) {
             Ok(address) => Ok(Some(address)),
             Err(_) => Err(NumberFault::StatusAddress),
         }
