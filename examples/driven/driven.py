@@ -4,22 +4,28 @@
         connect(publisher.port)
         publisher.say("begin T")
         publisher.say("insert T public.item (1,'ab',7)")
-        end = publisher.say("commit T 5")          # '0/1000050', where the transaction ends
-        publisher.say(f"await s {end}")            # until the slot s is confirmed there
+        end = publisher.say("commit T")            # '0/1000050', where the transaction ends
+        publisher.say("await s stream 5")          # until a client streams from the slot s, for five seconds at most
+        publisher.say(f"await s {end} 5")          # until s is confirmed there
         publisher.say("cut s 100")                 # its connection, behind 100 more bytes
 
-Each line is done before `say` returns, so a test decides what commits, and when, beside what its consumer does.
+Each line is done before `say` returns, so a test decides what commits, and when, beside what its consumer does. The publisher ends
+with its input, so nothing of it stays where the test ends. Another one at the same port is `Publisher(.., port=publisher.port)`.
 """
 import subprocess
 
 
 class Refused(Exception):
-    """A line that pubd refuses, by its code."""
+    """A line that pubd refuses: its code, and why."""
+
+    def __init__(self, code, words, line):
+        super().__init__(f"{code} {words}: {line}")
+        self.code = code
 
 
 class Publisher:
-    def __init__(self, pubd, configuration, connections="forever", options=()):
-        words = [pubd, *options, configuration, "127.0.0.1:0", str(connections), "-"]
+    def __init__(self, pubd, configuration, connections="forever", options=(), port=0):
+        words = [pubd, *options, configuration, f"127.0.0.1:{port}", str(connections), "-"]
         self.process = subprocess.Popen(words, stdin=subprocess.PIPE, stdout=subprocess.PIPE, text=True, bufsize=1)
         self.port = self.port_told()
         self.status_port = self.port_told() if "--status" in options else None
@@ -28,20 +34,27 @@ class Publisher:
         return int(self.process.stdout.readline().rpartition(":")[2])
 
     def say(self, line):
-        """Has pubd do a session's line, and answers where a commit ends."""
+        """Has pubd do a line, and answers where a commit ends. An empty line and a comment have no answer."""
         print(line, file=self.process.stdin)
-        word, *rest = self.process.stdout.readline().split()
-        if word != "ok":
-            raise Refused(f"{word}: {line}")
-        return rest[0] if rest else None
+        if not line or line.startswith("#"):
+            return None
+        return self.answer(line)
 
-    def commit(self, *lines, time=0):
-        """A transaction with these lines, which leave out its name: `insert public.item (1,'ab',7)`."""
+    def answer(self, line):
+        """What pubd says to a line that it was told."""
+        word, _, rest = self.process.stdout.readline().rstrip("\n").partition(" ")
+        if word != "ok":
+            raise Refused(word, rest, line)
+        return rest or None
+
+    def commit(self, *lines, time=None):
+        """A transaction with these lines, which leave out its name: `insert public.item (1,'ab',7)`, `savepoint`. Without a time it is
+        the clock's."""
         self.say("begin T")
         for line in lines:
-            word, rest = line.split(" ", 1)
-            self.say(f"{word} T {rest}")
-        return self.say(f"commit T {time}")
+            word, blank, rest = line.partition(" ")
+            self.say(f"{word} T{blank}{rest}")
+        return self.say("commit T" if time is None else f"commit T {time}")
 
     def end(self):
         """Ends it in order: its streams get what is left and CopyDone. Answers its exit status."""

@@ -98,8 +98,8 @@ class Round:
         self.wrong += [f"stream {at} tells something else" for at, each in enumerate(told) if each != told[0]]
 
     def look(self, server, streams, names):
-        """Nothing of the hostile clients is left: threads, descriptors, slots and readers."""
-        threads = 1 + THREADS * len(streams)
+        """Nothing of the hostile clients is left: threads, descriptors, slots and readers. One thread is the program's own, one tells."""
+        threads = 2 + THREADS * len(streams)
         self.wrong += [f"{server.threads()} threads are left, and not {threads}"] * (not server.comes_to(threads))
         sockets = sum(1 for _ in pathlib.Path(f"/proc/{server.process.pid}/fd").iterdir())
         self.wrong += [f"{sockets} descriptors are left of {len(streams)} streams"] * (sockets > 2 * len(streams) + 8)

@@ -16,7 +16,17 @@ from beginning import a_start_ahead_of_its_slot_is_refused, a_stream_tells_where
 from closing import an_acknowledgement_holds_over_a_blocked_write, an_acknowledgement_holds_over_a_close
 from connection import STARTUP, Connection, Refused, keepalive, refusal_of_one_more, status
 from crowds import sixteen_clients_at_sixteen_slots, sixteen_streams_tell_the_same_of_eight_scripts
-from driving import a_driven_server_ends_with_its_input_and_its_connections, each_line_is_answered_as_it_comes
+from driving import (
+    a_bad_line_is_answered_like_any_other,
+    a_driven_server_ends_with_its_input,
+    a_driven_server_ends_with_its_input_and_its_connections,
+    a_wait_has_its_time,
+    each_line_is_answered_as_it_comes,
+    lines_that_steer_pass_one_that_waits,
+    texts_have_escapes_and_commits_the_time,
+    words_of_the_command_line_are_read,
+)
+from edges import a_slow_reader_of_the_page_holds_up_nobody, closed_descriptors_are_nobody_s, nobody_waits_for_a_reader_of_what_is_told
 from followers import (
     a_refusal_without_a_reason_is_one_all_the_same,
     acknowledgements_follow_what_was_printed,
@@ -122,10 +132,11 @@ def a_conversation_goes_frame_by_frame(pubd, subcat):
 def nothing_is_lost_with_connections(pubd, subcat):
     """1,000 connections, half of them broken off in a stream; then 16 streams at once, a 17th that is refused, and 16 again.
 
-    The threads are counted while the sixteen stream: theirs, and pubd's own one, since its script is over.
+    The threads are counted while the sixteen stream: theirs, pubd's own one, since its script is over, and the one that writes what is
+    told.
     """
     wrong = []
-    threads = 1 + THREADS * STREAMS
+    threads = 2 + THREADS * STREAMS
     slots = [f"s{n}" for n in range(STREAMS)]
     with Server(pubd, CONNECTIONS) as server:
         first = Connection(server.port)
@@ -333,7 +344,7 @@ def two_followers_print_what_a_script_commits(pubd, subcat):
         followers = [subprocess.Popen(each, stdout=subprocess.PIPE, text=True) for each in words]
         printed = [follower.communicate()[0] for follower in followers]
         wrong = [f"follower {at} prints something else" for at, text in enumerate(printed, 1) if text != printed_of_inserts(count)]
-        return wrong + server.end(refused=[f"{server.script} {3 * count + 1} V1"])
+        return wrong + server.end(refused=[f"{server.script} {3 * count + 1} V1 no transaction of this name is in progress"])
 
 
 def a_startup_of_many_parameters_is_answered(pubd, subcat):
@@ -356,6 +367,7 @@ LONG = [
     a_silent_server_is_asked_and_then_lost,
     an_end_takes_ten_seconds,
     who_reads_no_answer_before_its_startup_is_let_go,
+    a_slow_reader_of_the_page_holds_up_nobody,
 ]
 ALL = [
     a_conversation_goes_frame_by_frame,
@@ -376,6 +388,14 @@ ALL = [
     sixteen_clients_at_sixteen_slots,
     each_line_is_answered_as_it_comes,
     a_driven_server_ends_with_its_input_and_its_connections,
+    a_driven_server_ends_with_its_input,
+    a_bad_line_is_answered_like_any_other,
+    texts_have_escapes_and_commits_the_time,
+    a_wait_has_its_time,
+    lines_that_steer_pass_one_that_waits,
+    words_of_the_command_line_are_read,
+    closed_descriptors_are_nobody_s,
+    nobody_waits_for_a_reader_of_what_is_told,
     a_stream_is_held_and_let_go,
     a_connection_is_cut_behind_a_byte,
     a_client_is_asked_and_awaited,

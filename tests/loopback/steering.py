@@ -127,7 +127,7 @@ def wrong_refusal(publisher, line, due):
         publisher.say(line)
         return [f"{line!r} is done"]
     except Refused as refused:
-        return [f"{line!r} is refused by {refused}"] * (refused.args[0] != f"{due}: {line}")
+        return [f"{line!r} is refused by {refused}"] * (refused.code != due)
 
 
 def a_server_ends_in_order(pubd, subcat):
@@ -167,5 +167,5 @@ def a_script_steers_too(pubd, subcat):
         client.socket.sendall(status(end))
         rest = all_that_comes(client)
         script = server.script
-        due = [f"{script} 4 L1", f"{script} 5 ok", f"{script} 6 ok"]
+        due = [f"{script} 4 L1 there is no such slot", f"{script} 5 ok", f"{script} 6 ok"]
         return [f"behind the transaction comes {rest.hex()}"] * (rest[:1] not in (b"", b"d")) + server.end(due)

@@ -8,7 +8,7 @@ use command_line::{CommandLine, Word, WordForm, WordsFault};
 use std::alloc::{AllocError, Global};
 
 /// The words: those that may be left out, those that have to be there, and scripts.
-const WORDS: [Word<'static>; 12] = [
+const WORDS: [Word<'static>; 13] = [
     Word {
         name: "await-streams",
         form: WordForm::Option("N"),
@@ -50,6 +50,11 @@ const WORDS: [Word<'static>; 12] = [
         help: "Let a stream start ahead of all that its slot has confirmed and sent, which is refused otherwise (55000): such a position is of another run",
     },
     Word {
+        name: "keep-serving",
+        form: WordForm::Flag,
+        help: "Serve on where the standard input ends, with forever and -",
+    },
+    Word {
         name: "CONFIG",
         form: WordForm::Required,
         help: "A TOML file with the server, the tables and their publications",
@@ -57,7 +62,7 @@ const WORDS: [Word<'static>; 12] = [
     Word {
         name: "ADDR",
         form: WordForm::Required,
-        help: "The address and port to listen at, as in 127.0.0.1:5433",
+        help: "The address and port to listen at, as in 127.0.0.1:5433 or localhost:5433",
     },
     Word {
         name: "CONNECTIONS",
@@ -110,6 +115,7 @@ fn words_in<'a>(alloc: Global, matches: &ArgMatches<'a>) -> Result<Words<'a>, Al
         status: matches.get_str("status"),
         answers_postgresql: matches.get_flag("answer-postgresql"),
         allows_start_ahead: matches.get_flag("allow-start-ahead"),
+        keeps_serving: matches.get_flag("keep-serving"),
         scripts: scripts_in(alloc, matches)?,
     })
 }

@@ -1,12 +1,14 @@
 //! The end of the server, and of whoever waits at its doors.
 
+use crate::scripting::InputLines;
 use hub::Hub;
 use shared_log::LogName;
 use slots::SlotName;
+use std::alloc::{AllocError, Global};
 use std::net::{Shutdown, SocketAddr, TcpListener, TcpStream};
 use std::os::fd::OwnedFd;
-use std::sync::Wait;
 use std::sync::atomic::{AtomicBool, Ordering};
+use std::sync::{Arc, Mutex, Wait};
 use std::time::{Clock, Duration};
 use std::{io, thread};
 
@@ -43,42 +45,84 @@ impl Door {
     }
 }
 
-/// The doors of the server: for connections, and for who asks what runs, if there is one.
+/// The doors of the server: for connections, for who asks what runs, if there is one, and for lines.
 #[derive(Drop)]
 pub struct Doors {
     pub connections: Door,
     pub status: Option<Door>,
+    pub input: Arc<InputLines, Global>,
     /// Nobody is told any more what runs.
-    pub(crate) is_status_over: AtomicBool,
+    is_status_over: AtomicBool,
+    /// The socket of who is being told what runs.
+    asking: Mutex<Option<TcpStream>>,
+    /// All connections have ended, and no more come.
+    are_connections_over: AtomicBool,
 }
 
 impl Doors {
     /// The doors at which these listeners wait.
-    pub fn of(connections: &TcpListener, status: Option<&TcpListener>) -> io::Result<Self> {
+    pub fn of(
+        alloc: Global,
+        connections: &TcpListener,
+        status: Option<&TcpListener>,
+    ) -> io::Result<Self> {
         let status = Door::of_any(status)?;
+        let input = input_of(alloc)?;
         Ok(Doors {
             connections: Door::of(connections)?,
             status,
+            input,
             is_status_over: AtomicBool::new(false),
+            asking: Mutex::new(None),
+            are_connections_over: AtomicBool::new(false),
         })
     }
 
-    /// Ends the page that tells what runs.
-    pub fn close_status(&self) {
+    /// Ends the page that tells what runs, also where it is being told.
+    pub fn close_status<R: Wait>(&self, rt: &R) {
         self.is_status_over.store(true, Ordering::SeqCst);
         if let Some(door) = &self.status {
             door.shut();
         }
+        if let Some(socket) = &*self.asking.lock(rt) {
+            let _ = socket.shutdown(Shutdown::Both);
+        }
+    }
+
+    pub fn is_status_over(&self) -> bool {
+        self.is_status_over.load(Ordering::SeqCst)
+    }
+
+    /// Who asks what runs has this socket, or nobody asks any more.
+    pub fn set_asking<R: Wait>(&self, rt: &R, socket: Option<TcpStream>) {
+        let mut asking = self.asking.lock(rt);
+        *asking = socket;
+        drop(asking);
+    }
+
+    /// All connections have ended, and no more come.
+    pub fn end_connections(&self) {
+        self.are_connections_over.store(true, Ordering::SeqCst);
+    }
+
+    pub fn are_connections_over(&self) -> bool {
+        self.are_connections_over.load(Ordering::SeqCst)
     }
 }
 
-/// Ends the server: its streams send what is left, and CopyDone. Ten seconds later it closes the connections that aren't over.
+fn input_of(alloc: Global) -> Result<Arc<InputLines, Global>, AllocError> {
+    Ok(Arc::new(alloc, InputLines::new(alloc))?)
+}
+
+/// Ends the server: no line of the input is done any more; its streams send what is left, and CopyDone. Ten seconds later it closes
+/// the connections that aren't over.
 pub fn end_server<L, R>(rt: &R, hub: &Hub<L>, doors: &Doors)
 where
     L: LogName + SlotName,
     R: Wait + Clock,
 {
     hub.shut_down(rt);
+    doors.input.close(rt);
     doors.connections.shut();
     for _ in 0..RESTS {
         if hub.is_deserted(rt) {

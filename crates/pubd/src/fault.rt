@@ -55,6 +55,8 @@ impl Ending for Fault {
     fn print<R: Print + Eprint>(&self, rt: &R) -> io::Result<()> {
         match self {
             Fault::Command(CommandFault::Words(WordsFault::Usage(error))) => error.print(rt),
+            // Each was told when it came.
+            Fault::EndedEarly => Ok(()),
             fault => eprintln!(rt; "pubd: {fault}"),
         }
     }

@@ -3,6 +3,7 @@
 
 mod command;
 mod command_fault;
+mod descriptors;
 mod ending;
 mod fault;
 mod help;
@@ -14,6 +15,7 @@ mod scripting;
 mod scripts;
 mod status_page;
 mod status_text;
+mod telling;
 mod times;
 mod words;
 
@@ -23,6 +25,7 @@ use command::words_of;
 use command_fault::CommandFault;
 use command_line::{arguments_of, ended};
 use configuration::{Config, config_at};
+use descriptors::open_standard;
 use ending::{Doors, end_server};
 use fault::Fault;
 use hub::{Hub, HubSettings, OpenedHub, serve};
@@ -30,8 +33,8 @@ use level::Level;
 use naming::system_name;
 use questions::Questions;
 use reports::Reports;
-use scripting::{STANDARD_INPUT, Script, run_input, scripts_at};
-use scripts::{end_script, run_all};
+use scripting::{Driven, InputLines, STANDARD_INPUT, Script, read_input, run_input, scripts_at};
+use scripts::{has_ended_server, run_all};
 use shared_log::LogName;
 use slots::SlotName;
 use status_page::serve_status;
@@ -40,21 +43,31 @@ use std::io::{Print, Stdin};
 use std::marker::Brand;
 use std::net::{Net, SocketAddr, TcpListener, TcpStream};
 use std::process::ExitCode;
-use std::sync::Wait;
 use std::sync::atomic::{AtomicBool, Ordering};
+use std::sync::{Arc, Wait};
 use std::thread::Threads;
 use std::time::Clock;
 use std::{io, thread};
+use telling::{Told, write_told};
 use words::{Numbers, Words};
 
 fn main(rt: HostRuntime) -> ExitCode {
+    open_standard(&rt);
     ended(&rt, run(&rt, &rt))
 }
 
 /// The runtime has the words and the files, and `host` the threads and the sockets.
 fn run<R>(rt: &HostRuntime, host: &R) -> Result<(), Fault>
 where
-    R: Net<Listener = TcpListener, Stream = TcpStream> + Threads + Wait + Clock + Sync,
+    R: Net<Listener = TcpListener, Stream = TcpStream>
+        + Threads
+        + Wait
+        + Clock
+        + Eprint
+        + Copy
+        + Send
+        + Sync
+        + 'static,
 {
     let arguments = arguments_of(rt).map_err(CommandFault::Words)?;
     run_called(rt, host, arguments.as_slice())
@@ -62,7 +75,15 @@ where
 
 fn run_called<R>(rt: &HostRuntime, host: &R, arguments: &[String]) -> Result<(), Fault>
 where
-    R: Net<Listener = TcpListener, Stream = TcpStream> + Threads + Wait + Clock + Sync,
+    R: Net<Listener = TcpListener, Stream = TcpStream>
+        + Threads
+        + Wait
+        + Clock
+        + Eprint
+        + Copy
+        + Send
+        + Sync
+        + 'static,
 {
     let words = words_of(rt.alloc(), arguments)?;
     run_words(rt, host, &words)
@@ -71,7 +92,15 @@ where
 /// All that can be refused is judged before the first connection is taken.
 fn run_words<R>(rt: &HostRuntime, host: &R, words: &Words) -> Result<(), Fault>
 where
-    R: Net<Listener = TcpListener, Stream = TcpStream> + Threads + Wait + Clock + Sync,
+    R: Net<Listener = TcpListener, Stream = TcpStream>
+        + Threads
+        + Wait
+        + Clock
+        + Eprint
+        + Copy
+        + Send
+        + Sync
+        + 'static,
 {
     let numbers = words.numbers()?;
     let scripts = scripts_at(rt, words.scripts.as_slice())?;
@@ -96,7 +125,15 @@ struct Asked<'a> {
 
 fn listen<R>(rt: &HostRuntime, host: &R, asked: &Asked) -> Result<(), Fault>
 where
-    R: Net<Listener = TcpListener, Stream = TcpStream> + Threads + Wait + Clock + Sync,
+    R: Net<Listener = TcpListener, Stream = TcpStream>
+        + Threads
+        + Wait
+        + Clock
+        + Eprint
+        + Copy
+        + Send
+        + Sync
+        + 'static,
 {
     let listener = TcpListener::bind(host, asked.numbers.address).map_err(Fault::Listen)?;
     let page = page_at(host, asked.numbers.status).map_err(Fault::Listen)?;
@@ -122,9 +159,17 @@ fn serve_at<R>(
     page: Option<&TcpListener>,
 ) -> Result<(), Fault>
 where
-    R: Net<Listener = TcpListener, Stream = TcpStream> + Threads + Wait + Clock + Sync,
+    R: Net<Listener = TcpListener, Stream = TcpStream>
+        + Threads
+        + Wait
+        + Clock
+        + Eprint
+        + Copy
+        + Send
+        + Sync
+        + 'static,
 {
-    let doors = Doors::of(listener, page).map_err(Fault::Listen)?;
+    let doors = Doors::of(rt.alloc(), listener, page).map_err(Fault::Listen)?;
     let service = Service {
         listener,
         page,
@@ -134,6 +179,7 @@ where
         level: asked.numbers.level,
         scripts: asked.scripts,
         has_input: asked.has_input,
+        ends_with_input: asked.has_input && asked.numbers.ends_with_input,
     };
     serve_configured(rt, host, asked, &service)
 }
@@ -145,16 +191,52 @@ fn serve_configured<R>(
     service: &Service,
 ) -> Result<(), Fault>
 where
-    R: Net<Listener = TcpListener, Stream = TcpStream> + Threads + Wait + Clock + Sync,
+    R: Net<Listener = TcpListener, Stream = TcpStream>
+        + Threads
+        + Wait
+        + Clock
+        + Eprint
+        + Copy
+        + Send
+        + Sync
+        + 'static,
 {
+    let told = begin_telling(host, rt.alloc())?;
+    if service.has_input {
+        begin_reading(host, rt.stdin(), &service.doors.input)?;
+    }
     let config = config_at(rt, asked.config)?;
     let opened = opened(rt, config, asked.numbers)?;
-    let streams = Streams {
-        input: &rt.stdin(),
-        output: &rt.stdout(),
-        errors: &rt.stderr(),
-    };
-    served::<Brand, R, _, _>(host, opened, service, &streams)
+    let done = served::<Brand, R, _>(host, opened, service, &told, &rt.stdout());
+    told.end(host);
+    done
+}
+
+/// What is told goes to the standard error by a thread of its own. Nobody joins that: it may wait for whoever reads it.
+fn begin_telling<R>(host: &R, alloc: Global) -> Result<Arc<Told, Global>, AllocError>
+where
+    R: Threads + Wait + Eprint + Copy + Send + 'static,
+{
+    let told = Arc::new(alloc, Told::new(alloc))?;
+    let theirs = Arc::try_clone(&told)?;
+    let rt = *host;
+    thread::spawn(host, move || write_told(&rt, &theirs))?;
+    Ok(told)
+}
+
+/// The standard input is read by a thread of its own. Nobody joins that: it may wait for whoever writes it.
+fn begin_reading<R>(
+    host: &R,
+    from: Stdin,
+    input: &Arc<InputLines, Global>,
+) -> Result<(), AllocError>
+where
+    R: Threads + Wait + Copy + Send + 'static,
+{
+    let theirs = Arc::try_clone(input)?;
+    let rt = *host;
+    thread::spawn(host, move || read_input(&rt, from, &theirs))?;
+    Ok(())
 }
 
 /// A hub for this configuration, with those limits that are told.
@@ -194,76 +276,70 @@ struct Service<'a> {
     scripts: &'a [Script],
     /// Whether lines come from the standard input.
     has_input: bool,
-}
-
-/// Where lines come from, where they are answered, and where faults are told.
-#[derive(Clone, Copy)]
-struct Streams<'a, O: Print, E: Print> {
-    input: &'a Stdin,
-    output: &'a O,
-    errors: &'a E,
+    /// Whether its end is that of the server.
+    ends_with_input: bool,
 }
 
 /// The log and the slots are named by the call. A hub must be closed, so whatever may fail stands in a call that borrows it.
-fn served<L, R, O, E>(
+fn served<L, R, O>(
     rt: &R,
     opened: OpenedHub,
     service: &Service,
-    streams: &Streams<O, E>,
+    told: &Told,
+    output: &O,
 ) -> Result<(), Fault>
 where
     L: LogName + SlotName + Send + Sync,
     R: Threads + Wait + Clock + Sync,
     O: Print,
-    E: Print + Sync,
     requires log { opened.log.history.seen.book ≡ L.book }
     requires slots { opened.slots.first.table_id ≡ L.table }
 {
     let hub = Hub::<L>::open(rt, opened).map_err(Fault::Hub)?;
-    let done = serve_beside_all(rt, &hub, service, streams);
+    let done = serve_beside_all(rt, &hub, service, told, output);
     hub.close(rt);
     done
 }
 
 /// Serves, with its scripts and its page beside that on threads of their own. Where lines come from the standard input, they are
 /// done on this thread, and connections are taken on one more.
-fn serve_beside_all<L, R, O, E>(
+fn serve_beside_all<L, R, O>(
     rt: &R,
     hub: &Hub<L>,
     service: &Service,
-    streams: &Streams<O, E>,
+    told: &Told,
+    output: &O,
 ) -> Result<(), Fault>
 where
     L: LogName + SlotName + Send + Sync,
     R: Threads + Wait + Clock + Sync,
     O: Print,
-    E: Print + Sync,
 {
-    tell_doors(service.doors, streams.output).map_err(Fault::Output)?;
+    tell_doors(service.doors, output).map_err(Fault::Output)?;
     let ended_early = AtomicBool::new(false);
-    serve_beside(rt, hub, service, streams, &ended_early)?;
+    serve_beside(rt, hub, service, told, output, &ended_early)?;
     if ended_early.load(Ordering::SeqCst) {
+        told.line(rt, format_args!("pubd: {}", Fault::EndedEarly));
         return Err(Fault::EndedEarly);
     }
     Ok(())
 }
 
-fn serve_beside<L, R, O, E>(
+fn serve_beside<L, R, O>(
     rt: &R,
     hub: &Hub<L>,
     service: &Service,
-    streams: &Streams<O, E>,
+    told: &Told,
+    output: &O,
     early: &AtomicBool,
 ) -> Result<(), AllocError>
 where
     L: LogName + SlotName + Send + Sync,
     R: Threads + Wait + Clock + Sync,
     O: Print,
-    E: Print + Sync,
 {
-    let errors = streams.errors;
     thread::scope(thread::scope_env(), rt, |scope| {
-        let scripted = scope.spawn(move || run_awaited(rt, hub, service, errors, early));
+        let scripted = scope.spawn(move || run_awaited(rt, hub, service, told, early));
         if !was_spawned(scripted) {
             return give_up(rt, hub, service);
         }
@@ -274,14 +350,14 @@ where
             }
         }
         if !service.has_input {
-            serve_all(rt, hub, service, errors, early);
+            serve_all(rt, hub, service, told, early);
             return Ok(());
         }
-        let served = scope.spawn(move || serve_all(rt, hub, service, errors, early));
+        let served = scope.spawn(move || serve_all(rt, hub, service, told, early));
         if !was_spawned(served) {
             return give_up(rt, hub, service);
         }
-        run_lines(rt, hub, service, streams, early);
+        run_lines(rt, hub, service, told, output, early);
         Ok(())
     })
 }
@@ -306,36 +382,37 @@ where
     L: LogName + SlotName,
     R: Wait + Clock,
 {
-    service.doors.close_status();
+    service.doors.close_status(rt);
     end_server(rt, hub, service.doors);
     Err(AllocError)
 }
 
 /// The lines of the standard input are done as they come, and answered on the standard output.
-fn run_lines<L, R, O, E>(
+fn run_lines<L, R, O>(
     rt: &R,
     hub: &Hub<L>,
     service: &Service,
-    streams: &Streams<O, E>,
+    told: &Told,
+    output: &O,
     early: &AtomicBool,
 )
 where
     L: LogName + SlotName,
     R: Wait + Clock,
     O: Print,
-    E: Print,
 {
-    let mut answers = io::writer(streams.output);
-    let ended = run_input(rt, hub, streams.input, &mut answers);
-    end_script(
+    let driven = Driven {
         rt,
         hub,
-        service.doors,
-        STANDARD_INPUT,
-        ended,
-        streams.errors,
-        early,
-    );
+        doors: service.doors,
+        input: &service.doors.input,
+        ends_with_input: service.ends_with_input,
+    };
+    let ended = run_input(&driven, output);
+    let is_over = has_ended_server(rt, STANDARD_INPUT, ended, told, early);
+    if is_over || service.ends_with_input {
+        end_server(rt, hub, service.doors);
+    }
 }
 
 /// Tells whoever asks what runs, if there is a place for that.
@@ -350,23 +427,19 @@ where
 }
 
 /// Serves until the last connection has ended. Why it ended early is told at once, and by `early`.
-fn serve_all<L, R, E>(rt: &R, hub: &Hub<L>, service: &Service, errors: &E, early: &AtomicBool)
+fn serve_all<L, R>(rt: &R, hub: &Hub<L>, service: &Service, told: &Told, early: &AtomicBool)
 where
     L: LogName + SlotName + Send + Sync,
     R: Threads + Wait + Clock + Sync,
-    E: Print + Sync,
 {
-    let reports = Reports {
-        errors,
-        level: service.level,
-        questions: Questions::new(),
-    };
+    let reports = Reports::new(rt, hub.alloc(), told, service.level);
     let served = serve(rt, service.listener, hub, service.connections, &reports);
+    service.doors.end_connections();
     hub.end_awaiting(rt);
-    service.doors.close_status();
+    service.doors.close_status(rt);
     match served {
         Err(fault) if !hub.is_ending() => {
-            let _ = errors.println(format_args!("pubd: {fault}"));
+            told.line(rt, format_args!("pubd: {fault}"));
             early.store(true, Ordering::SeqCst);
         }
         _ => {}
@@ -374,12 +447,11 @@ where
 }
 
 /// The scripts begin once the streams that they await have begun.
-fn run_awaited<L, R, E>(rt: &R, hub: &Hub<L>, service: &Service, errors: &E, early: &AtomicBool)
+fn run_awaited<L, R>(rt: &R, hub: &Hub<L>, service: &Service, told: &Told, early: &AtomicBool)
 where
     L: LogName + SlotName + Send + Sync,
     R: Threads + Wait + Clock + Sync,
-    E: Print + Sync,
 {
     hub.await_streams(rt, service.awaited);
-    run_all(rt, hub, service.scripts, service.doors, errors, early);
+    run_all(rt, hub, service.scripts, service.doors, told, early);
 }

@@ -1,21 +1,22 @@
 //! A page over HTTP that tells what runs.
 
+ghost use Rattle.std.specs.Prelude.{◌≤◌, IfOk, IfSome, length};
+
 use crate::ending::Doors;
 use crate::status_text::write_status;
 use hub::Hub;
 use shared_log::LogName;
 use slots::SlotName;
-use std::io::{Read, Write};
+use std::io::{ErrorKind, Read, Write};
 use std::net::{TcpListener, TcpStream};
 use std::sync::Wait;
-use std::sync::atomic::Ordering;
-use std::time::{Clock, Duration};
+use std::time::{Clock, Duration, Instant};
 use std::{io, thread};
 
 /// How many bytes of a request are read: its first line and more than that.
 const MOST_READ: usize = 4096;
 
-/// For how many seconds a read or a write of a request waits.
+/// For how many seconds a request is read and answered.
 const PATIENCE: u64 = 5;
 
 /// For how many milliseconds a listener rests that can't give a connection for now.
@@ -29,12 +30,12 @@ where
 {
     for _ in rt.forever() {
         let accepted = listener.accept();
-        if doors.is_status_over.load(Ordering::SeqCst) {
+        if doors.is_status_over() {
             break;
         }
         match accepted {
             Ok((socket, _)) => {
-                let _ = answer(rt, hub, &socket);
+                let _ = answer_one(rt, hub, doors, &socket);
             }
             Err(_) => thread::sleep(rt, Duration::from_millis(REST)),
         }
@@ -70,22 +71,58 @@ impl Asked {
     }
 }
 
+/// Answers a request, unless the page is over. Whoever ends it meanwhile closes the socket.
+fn answer_one<L, R>(rt: &R, hub: &Hub<L>, doors: &Doors, socket: &TcpStream) -> io::Result<()>
+where
+    L: LogName + SlotName,
+    R: Wait + Clock,
+{
+    doors.set_asking(rt, Some(socket.try_clone()?));
+    let answered = if doors.is_status_over() {
+        Ok(())
+    } else {
+        answer(rt, hub, socket)
+    };
+    doors.set_asking(rt, None);
+    answered
+}
+
+/// What is left of the time of a request that began then.
+fn left<R: Clock>(rt: &R, begun: Instant) -> io::Result<Option<Duration>> {
+    match Duration::from_secs(PATIENCE).checked_sub(begun.elapsed(rt)?) {
+        Some(left) if !left.is_zero() => Ok(Some(left)),
+        _ => Err(io::Error::from(ErrorKind::TimedOut)),
+    }
+}
+
 /// Reads a request up to its empty line, or so much of it as is read.
-fn read_request(socket: &TcpStream) -> io::Result<Asked> {
+fn read_request<R: Clock>(rt: &R, socket: &TcpStream, begun: Instant) -> io::Result<Asked> {
     let mut bytes = [0; MOST_READ];
     let mut count = 0;
-    let mut from = socket;
-    for _ in 0..MOST_READ {
+    for _ in 0..u64::MAX {
         if MOST_READ <= count || bytes[..count].ends_with(b"\r\n\r\n") {
             break;
         }
-        let more = from.read(&mut bytes[count..])?;
-        if more == 0 {
-            break;
+        socket.set_read_timeout(left(rt, begun)?)?;
+        match read_some(socket, &mut bytes[count..])? {
+            Some(0) => break,
+            Some(more) => count += more,
+            None => {}
         }
-        count += more;
     }
     Ok(Asked::of(&bytes[..count.min(MOST_READ)]))
+}
+
+/// Reads what there is. None: a signal came first.
+fn read_some(socket: &TcpStream, room: &mut [u8]) -> io::Result<Option<usize>>
+    ensures { IfOk result (λ more. IfSome more (λ n. n ≤ length room.old)) }
+{
+    let mut from = socket;
+    match from.read(room) {
+        Ok(count) => Ok(Some(count)),
+        Err(error) if error.kind() == ErrorKind::Interrupted => Ok(None),
+        Err(error) => Err(error),
+    }
 }
 
 fn answer<L, R>(rt: &R, hub: &Hub<L>, socket: &TcpStream) -> io::Result<()>
@@ -93,14 +130,37 @@ where
     L: LogName + SlotName,
     R: Wait + Clock,
 {
-    let patience = Some(Duration::from_secs(PATIENCE));
-    socket.set_read_timeout(patience)?;
-    socket.set_write_timeout(patience)?;
-    let asked = read_request(socket)?;
+    let begun = Instant::now(rt)?;
+    let asked = read_request(rt, socket, begun)?;
     let mut page = Vec::new(hub.alloc());
     write_page(rt, hub, asked, &mut page)?;
+    send(rt, socket, begun, page.as_slice())
+}
+
+fn send<R: Clock>(rt: &R, socket: &TcpStream, begun: Instant, bytes: &[u8]) -> io::Result<()> {
+    let mut rest = bytes;
+    for _ in 0..u64::MAX {
+        if rest.is_empty() {
+            break;
+        }
+        socket.set_write_timeout(left(rt, begun)?)?;
+        let count = write_some(socket, rest)?;
+        rest = &rest[count..];
+    }
+    Ok(())
+}
+
+/// Writes some of the bytes: none where a signal came first.
+fn write_some(socket: &TcpStream, bytes: &[u8]) -> io::Result<usize>
+    ensures { IfOk result (λ n. n ≤ length bytes.now) }
+{
     let mut to = socket;
-    to.write_all(page.as_slice())
+    match to.write(bytes) {
+        Ok(0) => Err(io::Error::from(ErrorKind::WriteZero)),
+        Ok(count) => Ok(count),
+        Err(error) if error.kind() == ErrorKind::Interrupted => Ok(0),
+        Err(error) => Err(error),
+    }
 }
 
 fn write_page<L, R>(rt: &R, hub: &Hub<L>, asked: Asked, page: &mut Vec<u8>) -> io::Result<()>

@@ -27,6 +27,7 @@ pub struct Words<'a> {
     pub(crate) status: Option<&'a str>,
     pub(crate) answers_postgresql: bool,
     pub(crate) allows_start_ahead: bool,
+    pub(crate) keeps_serving: bool,
     pub scripts: Vec<&'a str>,
 }
 
@@ -45,6 +46,8 @@ pub struct Numbers {
     pub max_connections: Option<u32>,
     pub answers_postgresql: bool,
     pub allows_start_ahead: bool,
+    /// Whether the end of the standard input is that of the server, where lines come from there.
+    pub ends_with_input: bool,
 }
 
 impl<'a> Words<'a> {
@@ -66,6 +69,7 @@ impl<'a> Words<'a> {
             max_connections: self.max_connections()?,
             answers_postgresql: self.answers_postgresql,
             allows_start_ahead: self.allows_start_ahead,
+            ends_with_input: self.connections == FOREVER && !self.keeps_serving,
         })
     }
 
@@ -73,7 +77,7 @@ impl<'a> Words<'a> {
         let Some(text) = self.status else {
             return Ok(None);
         };
-        match text.parse::<SocketAddr>() {
+        match address_of(text) {
             Ok(address) => Ok(Some(address)),
             Err(_) => Err(NumberFault::StatusAddress),
         }

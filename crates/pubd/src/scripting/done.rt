@@ -1,52 +1,63 @@
 //! How a step is done beside connections.
 
-use crate::scripting::outcome::Done;
-use crate::scripting::step::{Steering, Step};
+use super::outcome::Done;
+use super::refusal::Refusal;
+use super::step::Steering;
 use hub::{Hub, SteerFault};
-use schedule::{Answer, Event, SessionStep, Sessions};
+use pqformat::Text;
+use schedule::{Answer, Event, SessionStep, Sessions, WorldFault};
 use shared_log::LogName;
 use slots::SlotName;
 use std::alloc::AllocError;
 use std::sync::{MutexGuard, Wait};
+use std::time::Clock;
 use txlog::Receipt;
 
-/// The code of a line that steers the stream of a slot that isn't there.
-const NO_SLOT: &str = "L1";
+/// How many microseconds after the beginning of 1970 a commit's time is 0: at that of 2000.
+const FIRST_TIME: i64 = 946_684_800_000_000;
 
-/// Does a step: a session's under the publisher's lock, behind which streams are told of its commit or its note.
-pub(crate) fn do_step<L: LogName + SlotName, R: Wait>(
-    rt: &R,
-    hub: &Hub<L>,
-    sessions: &mut Sessions,
-    step: &Step,
-) -> Result<Done, AllocError> {
-    match step {
-        Step::Session(event) => do_event(rt, hub, sessions, event),
-        Step::Steer(slot, steering) => Ok(match steer(rt, hub, slot.as_str(), *steering) {
-            Ok(()) => Done::Steered,
-            Err(SteerFault::Missing) => Done::Refused(NO_SLOT),
-        }),
-        Step::End => Ok(Done::End),
-    }
-}
-
-fn steer<L: LogName + SlotName, R: Wait>(
+pub(crate) fn steer<L: LogName + SlotName, R: Wait>(
     rt: &R,
     hub: &Hub<L>,
     slot: &str,
     steering: Steering,
-) -> Result<(), SteerFault> {
-    match steering {
-        Steering::Await(position) => hub.await_confirmed(rt, slot, position),
+) -> Done {
+    let steered = match steering {
         Steering::Hold => hub.hold_stream(rt, slot),
         Steering::Resume => hub.resume_stream(rt, slot),
         Steering::Ask => hub.ask_stream(rt, slot),
         Steering::Cut(bytes) => hub.cut_stream(rt, slot, bytes),
+    };
+    match steered {
+        Ok(()) => Done::Steered,
+        Err(SteerFault::Missing) => Done::Refused(Refusal::NoSlot),
+    }
+}
+
+/// Commits the transaction of this name at the time of the clock.
+pub(crate) fn commit_now<L: LogName + SlotName, R: Wait + Clock>(
+    rt: &R,
+    hub: &Hub<L>,
+    sessions: &mut Sessions,
+    name: &Text,
+) -> Result<Done, AllocError> {
+    let name = name.copy(hub.alloc())?;
+    let event = Event::Session(name, SessionStep::Commit(now(rt)));
+    do_event(rt, hub, sessions, &event)
+}
+
+/// The time of the clock in microseconds since 2000-01-01, and that one where it can't be read.
+fn now<R: Clock>(rt: &R) -> i64 {
+    match rt.since_1970() {
+        Ok(time) => i64::try_from(time.as_micros())
+            .unwrap_or(FIRST_TIME)
+            .saturating_sub(FIRST_TIME),
+        Err(_) => 0,
     }
 }
 
 /// Does a session's line under the publisher's lock, and tells streams of its commit or its note.
-fn do_event<L: LogName + SlotName, R: Wait>(
+pub(crate) fn do_event<L: LogName + SlotName, R: Wait>(
     rt: &R,
     hub: &Hub<L>,
     sessions: &mut Sessions,
@@ -59,7 +70,16 @@ fn do_event<L: LogName + SlotName, R: Wait>(
     match done {
         Ok((answer, Some(receipt))) => Ok(tell_commit(rt, hub, answer, receipt)),
         Ok((answer, None)) => Ok(tell_end(rt, hub, event, answer, log_end)),
-        Err(fault) => Done::of_fault(fault),
+        Err(WorldFault::BadEvent) => Ok(Done::Refused(not_now(event))),
+        Err(WorldFault::Memory | WorldFault::NoEntry) => Err(AllocError),
+    }
+}
+
+/// Why a session's line can't be done where it stands.
+fn not_now(event: &Event) -> Refusal {
+    match event {
+        Event::Session(_, SessionStep::Begin) => Refusal::SecondBegin,
+        _ => Refusal::NoTransaction,
     }
 }
 
@@ -72,9 +92,9 @@ fn tell_commit<L: LogName + SlotName, R: Wait>(
 ) -> Done {
     let end = receipt.end();
     hub.tell(rt, receipt);
-    match answer.code() {
-        Some(code) => Done::Refused(code),
-        None => Done::Commit(end),
+    match answer {
+        Answer::Session(fault) => Done::Refused(Refusal::Session(fault)),
+        _ => Done::Commit(end),
     }
 }
 
@@ -86,8 +106,8 @@ fn tell_end<L: LogName + SlotName, R: Wait>(
     answer: Answer,
     log_end: u64,
 ) -> Done {
-    if let Some(code) = answer.code() {
-        return Done::Refused(code);
+    if let Answer::Session(fault) = answer {
+        return Done::Refused(Refusal::Session(fault));
     }
     if matches!(
         event,

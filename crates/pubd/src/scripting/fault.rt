@@ -1,5 +1,6 @@
 //! Why a script is not read, or ended.
 
+use schedule::BadLine;
 use std::alloc::AllocError;
 use std::io;
 use thiserror::Error;
@@ -9,10 +10,8 @@ use thiserror::Error;
 pub enum ScriptFault {
     #[error("V2: out of memory")]
     Memory,
-    #[error("refusals cannot be written: {0}")]
-    Refusals(io::Error),
     #[error("no more lines can be read: {0}")]
-    Lines(io::Error),
+    Lines(io::ErrorKind),
     #[error("answers cannot be written: {0}")]
     Answers(io::Error),
 }
@@ -23,19 +22,13 @@ impl From<AllocError> for ScriptFault {
     }
 }
 
-impl From<io::Error> for ScriptFault {
-    fn from(fault: io::Error) -> ScriptFault {
-        ScriptFault::Refusals(fault)
-    }
-}
-
 /// Why the file of a script gave no script.
 #[derive(Debug, Drop, Error)]
 pub enum ScriptFileFault {
     #[error("{0} cannot be read: {1}")]
     Read(String, io::Error),
-    #[error("{0}: line {1} is no line of a script")]
-    BadLine(String, usize),
+    #[error("{0}: line {1} is no line of a script: {2}")]
+    BadLine(String, usize, BadLine),
     #[error("out of memory")]
     Memory(#[from(alloc)] AllocError),
 }
@@ -45,7 +38,7 @@ impl ScriptFileFault {
     pub fn is_bad_script(&self) -> bool {
         match self {
             ScriptFileFault::Read(_, error) => error.kind() == io::ErrorKind::InvalidData,
-            ScriptFileFault::BadLine(_, _) => true,
+            ScriptFileFault::BadLine(_, _, _) => true,
             ScriptFileFault::Memory(_) => false,
         }
     }

@@ -1,8 +1,8 @@
 //! Scripts in files.
 
 use crate::scripting::fault::ScriptFileFault;
-use crate::scripting::numbered_steps::Steps;
-use schedule::{LineFault, WorldFault};
+use crate::scripting::numbered_steps::{StepFault, Steps};
+use schedule::LineRefusal;
 use std::alloc::{AllocError, Global};
 use std::fs;
 
@@ -56,9 +56,9 @@ fn script_in(alloc: Global, name: String, text: &str) -> Result<Script, ScriptFi
     }
 }
 
-fn refusal_of(name: String, refused: &LineFault) -> ScriptFileFault {
-    match refused.fault {
-        WorldFault::BadEvent => ScriptFileFault::BadLine(name, refused.line),
-        WorldFault::Memory | WorldFault::NoEntry => ScriptFileFault::Memory(AllocError),
+fn refusal_of(name: String, refused: &StepFault) -> ScriptFileFault {
+    match refused.refusal {
+        LineRefusal::Bad(bad) => ScriptFileFault::BadLine(name, refused.line, bad),
+        LineRefusal::Memory => ScriptFileFault::Memory(AllocError),
     }
 }

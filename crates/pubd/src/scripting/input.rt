@@ -1,90 +1,212 @@
 //! Lines from outside: done as they come, and answered one by one.
 
-use crate::scripting::done::do_step;
-use crate::scripting::fault::ScriptFault;
-use crate::scripting::leaving::leave_all;
-use crate::scripting::outcome::{Done, answer};
-use crate::scripting::step::Step;
-use crate::scripting::steps::ScriptEnd;
+use super::awaiting::{Waiting, unmet};
+use super::done::steer;
+use super::fault::ScriptFault;
+use super::input_lines::{Came, InputLines};
+use super::leaving::leave_all;
+use super::lines::{content_of, is_passed_over};
+use super::outcome::Done;
+use super::refusal::{Refusal, Unmet};
+use super::step::{Await, Step};
+use super::steps::{ScriptEnd, do_step};
+use crate::ending::Doors;
 use hub::Hub;
-use schedule::Sessions;
+use schedule::{BadLine, LineRefusal, Sessions};
 use shared_log::LogName;
 use slots::SlotName;
-use std::alloc::AllocError;
-use std::io;
-use std::io::{Input, Write};
+use std::alloc::{AllocError, Global};
+use std::collections::VecDeque;
+use std::io::Print;
 use std::sync::Wait;
+use std::time::Clock;
+
+/// How many lines are looked at ahead of one that waits.
+const MOST_KEPT: usize = 1000;
+
+/// What lines from outside stand on.
+#[derive(Drop)]
+pub struct Driven<'a, L: LogName + SlotName, R> {
+    pub rt: &'a R,
+    pub hub: &'a Hub<L>,
+    pub doors: &'a Doors,
+    pub input: &'a InputLines,
+    /// Whether the end of the input is that of the server.
+    pub ends_with_input: bool,
+}
+
+/// A line that isn't answered yet.
+#[derive(Drop)]
+enum Pending {
+    Step(Step),
+    /// It was done before those in front of it, or is no line.
+    Done(Done),
+}
+
+/// Lines that came while one waits.
+#[derive(Drop)]
+struct Kept {
+    lines: VecDeque<Pending>,
+    /// The server is to end, so nothing is awaited any more.
+    is_ending: bool,
+}
 
 /// Does lines as they come, each session's under the publisher's lock, and tells streams of each commit and each note.
 ///
-/// Each line is answered by one: `ok`; behind a commit with the position at which its record ends, as in `ok 0/1000050`; or the code
-/// of its refusal, V1 where it is no such line. Empty lines and those that begin with `#` are passed over. `end` is answered by `ok`,
-/// and no line is read behind it. Transactions that are in progress then, or where the input ends, are left as they are, so that
-/// nothing of them commits.
-pub fn run_input<L: LogName + SlotName, R: Wait, I: Input, W: Write>(
-    rt: &R,
-    hub: &Hub<L>,
-    input: &I,
-    answers: &mut W,
+/// Each line is answered by one, in their order: `ok`; behind a commit with the position at which its record ends, as in
+/// `ok 0/1000050`; or the code of its refusal and words, V1 where it is no such line. Empty lines and those that begin with `#` are
+/// passed over. While a line waits, those behind it that steer are done as they come, and `end` and, where the server ends with
+/// its input, the end of the input end the wait. `end` is answered by `ok`, and no line is done behind it. Transactions that are in
+/// progress then, or where the input ends, are left as they are, so that nothing of them commits.
+pub fn run_input<L: LogName + SlotName, R: Wait + Clock, O: Print>(
+    driven: &Driven<'_, L, R>,
+    output: &O,
 ) -> Result<ScriptEnd, ScriptFault> {
-    let mut sessions = Sessions::new(hub.alloc());
-    let ended = answer_lines(rt, hub, input, &mut sessions, answers);
-    leave_all(rt, hub, sessions);
+    let mut sessions = Sessions::new(driven.hub.alloc());
+    let ended = answer_lines(driven, &mut sessions, output);
+    leave_all(driven.rt, driven.hub, sessions);
     ended
 }
 
-fn answer_lines<L: LogName + SlotName, R: Wait, I: Input, W: Write>(
-    rt: &R,
-    hub: &Hub<L>,
-    input: &I,
+fn answer_lines<L: LogName + SlotName, R: Wait + Clock, O: Print>(
+    driven: &Driven<'_, L, R>,
     sessions: &mut Sessions,
-    answers: &mut W,
+    output: &O,
 ) -> Result<ScriptEnd, ScriptFault> {
-    for line in input.lines(hub.alloc()) {
-        let done = answer_line(rt, hub, sessions, line, answers)?;
+    let mut kept = Kept {
+        lines: VecDeque::new(driven.hub.alloc()),
+        is_ending: false,
+    };
+    for _ in driven.rt.forever() {
+        let Some(pending) = next_line(driven, &mut kept)? else {
+            return Ok(ScriptEnd::LastLine);
+        };
+        let done = do_pending(driven, sessions, &mut kept, &pending)?;
+        println!(output; "{done}").map_err(ScriptFault::Answers)?;
         if matches!(done, Done::End) {
             return Ok(ScriptEnd::EndLine);
         }
     }
-    Ok(ScriptEnd::LastLine)
+    unreachable!()
 }
 
-fn answer_line<L: LogName + SlotName, R: Wait, W: Write>(
-    rt: &R,
-    hub: &Hub<L>,
-    sessions: &mut Sessions,
-    line: io::Result<String>,
-    answers: &mut W,
-) -> Result<Done, ScriptFault> {
-    match line {
-        Ok(line) => answer_text(rt, hub, sessions, line.as_str(), answers),
-        Err(fault) => Err(ScriptFault::Lines(fault)),
+/// The next line that is answered. None: no more come.
+fn next_line<L: LogName + SlotName, R: Wait>(
+    driven: &Driven<'_, L, R>,
+    kept: &mut Kept,
+) -> Result<Option<Pending>, ScriptFault> {
+    if let Some(pending) = kept.lines.pop_front() {
+        return Ok(Some(pending));
+    }
+    for _ in driven.rt.forever() {
+        match driven.input.next(driven.rt) {
+            Came::Over => return Ok(None),
+            Came::Failed(kind) => return Err(ScriptFault::Lines(kind)),
+            came => {
+                if let Some(pending) = pending_of(driven.hub.alloc(), came)? {
+                    return Ok(Some(pending));
+                }
+            }
+        }
+    }
+    unreachable!()
+}
+
+/// What is to be answered of a line that came, if anything is.
+fn pending_of(alloc: Global, came: Came) -> Result<Option<Pending>, AllocError> {
+    match came {
+        Came::Line(text) => pending_in(alloc, content_of(text.as_str())),
+        Came::NotUtf8 => Ok(Some(bad(BadLine::NotUtf8))),
+        Came::Over | Came::Failed(_) => Ok(None),
     }
 }
 
-fn answer_text<L: LogName + SlotName, R: Wait, W: Write>(
-    rt: &R,
-    hub: &Hub<L>,
-    sessions: &mut Sessions,
-    line: &str,
-    answers: &mut W,
-) -> Result<Done, ScriptFault> {
-    if line.is_empty() || line.starts_with('#') {
-        return Ok(Done::Line);
+fn pending_in(alloc: Global, content: &str) -> Result<Option<Pending>, AllocError> {
+    if is_passed_over(content) {
+        return Ok(None);
     }
-    let done = do_text(rt, hub, sessions, line)?;
-    answer(hub.alloc(), done, answers)?;
-    Ok(done)
+    match Step::parse(alloc, content) {
+        Ok(step) => Ok(Some(Pending::Step(step))),
+        Err(LineRefusal::Bad(why)) => Ok(Some(bad(why))),
+        Err(LineRefusal::Memory) => Err(AllocError),
+    }
 }
 
-fn do_text<L: LogName + SlotName, R: Wait>(
-    rt: &R,
-    hub: &Hub<L>,
+fn bad(why: BadLine) -> Pending {
+    Pending::Done(Done::Refused(Refusal::Line(why)))
+}
+
+fn do_pending<L: LogName + SlotName, R: Wait + Clock>(
+    driven: &Driven<'_, L, R>,
     sessions: &mut Sessions,
-    line: &str,
+    kept: &mut Kept,
+    pending: &Pending,
 ) -> Result<Done, AllocError> {
-    match Step::parse(hub.alloc(), line) {
-        Ok(step) => do_step(rt, hub, sessions, &step),
-        Err(fault) => Done::of_fault(fault),
+    match pending {
+        Pending::Done(done) => Ok(*done),
+        Pending::Step(Step::Await(line)) => wait_out(driven, kept, line),
+        Pending::Step(step) => do_step(driven.rt, driven.hub, driven.doors, sessions, step),
+    }
+}
+
+/// Waits, and lets lines that steer pass meanwhile.
+fn wait_out<L: LogName + SlotName, R: Wait + Clock>(
+    driven: &Driven<'_, L, R>,
+    kept: &mut Kept,
+    line: &Await,
+) -> Result<Done, AllocError> {
+    let waiting = Waiting::new(driven.rt, line);
+    for _ in driven.rt.forever() {
+        if let Some(done) = waiting.turn(driven.rt, driven.hub, driven.doors) {
+            return Ok(done);
+        }
+        let_pass(driven, kept)?;
+        if kept.is_ending {
+            return Ok(unmet(Unmet::Ending));
+        }
+    }
+    unreachable!()
+}
+
+/// Keeps the lines that have come, and does those that steer.
+fn let_pass<L: LogName + SlotName, R: Wait>(
+    driven: &Driven<'_, L, R>,
+    kept: &mut Kept,
+) -> Result<(), AllocError> {
+    for _ in kept.lines.len()..MOST_KEPT {
+        match driven.input.next_if_any(driven.rt) {
+            None => return Ok(()),
+            Some(Came::Over | Came::Failed(_)) => {
+                kept.is_ending = kept.is_ending || driven.ends_with_input;
+                return Ok(());
+            }
+            Some(came) => {
+                if let Some(pending) = pending_of(driven.hub.alloc(), came)? {
+                    keep(driven, kept, pending)?;
+                }
+            }
+        }
+    }
+    Ok(())
+}
+
+fn keep<L: LogName + SlotName, R: Wait>(
+    driven: &Driven<'_, L, R>,
+    kept: &mut Kept,
+    pending: Pending,
+) -> Result<(), AllocError> {
+    let done = match &pending {
+        Pending::Step(Step::Steer(slot, steering)) => {
+            Some(steer(driven.rt, driven.hub, slot.as_str(), *steering))
+        }
+        Pending::Step(Step::End) => {
+            kept.is_ending = true;
+            None
+        }
+        _ => None,
+    };
+    match done {
+        Some(done) => Ok(kept.lines.push_back(Pending::Done(done))?),
+        None => Ok(kept.lines.push_back(pending)?),
     }
 }

@@ -1,7 +1,8 @@
 //! Scripts: the steps of their lines.
 
-use crate::scripting::step::Step;
-use schedule::{LineFault, WorldFault};
+use super::lines::{content_of, is_passed_over};
+use super::step::Step;
+use schedule::LineRefusal;
 use std::alloc::Global;
 
 /// The steps of a script, in the order of its lines.
@@ -17,10 +18,17 @@ pub struct NumberedStep {
     pub step: Step,
 }
 
+/// The line of a script that was not read, and why.
+#[derive(Clone, Copy, Debug)]
+pub struct StepFault {
+    pub line: usize,
+    pub refusal: LineRefusal,
+}
+
 impl Steps {
     /// The steps of all lines. Empty lines and those that begin with `#` are passed over, but counted. The first line that is no
     /// step is refused.
-    pub fn parse(alloc: Global, text: &str) -> Result<Steps, LineFault> {
+    pub fn parse(alloc: Global, text: &str) -> Result<Steps, StepFault> {
         let mut steps = Steps {
             steps: Vec::new(alloc),
         };
@@ -28,19 +36,20 @@ impl Steps {
         Ok(steps)
     }
 
-    fn add_lines(&mut self, alloc: Global, text: &str) -> Result<(), LineFault> {
-        for (line, content) in (1..usize::MAX).zip(text.split('\n')) {
-            if content.is_empty() || content.starts_with('#') {
+    fn add_lines(&mut self, alloc: Global, text: &str) -> Result<(), StepFault> {
+        for (line, text) in (1..usize::MAX).zip(text.split('\n')) {
+            let content = content_of(text);
+            if is_passed_over(content) {
                 continue;
             }
-            if let Err(fault) = self.add(alloc, line, content) {
-                return Err(LineFault { line, fault });
+            if let Err(refusal) = self.add(alloc, line, content) {
+                return Err(StepFault { line, refusal });
             }
         }
         Ok(())
     }
 
-    fn add(&mut self, alloc: Global, line: usize, content: &str) -> Result<(), WorldFault> {
+    fn add(&mut self, alloc: Global, line: usize, content: &str) -> Result<(), LineRefusal> {
         let step = Step::parse(alloc, content)?;
         self.steps.push(NumberedStep { line, step })?;
         Ok(())

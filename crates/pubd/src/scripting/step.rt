@@ -1,17 +1,21 @@
-//! The lines of a script beside connections: those of sessions, those that steer streams, and the one that ends the server.
+//! The lines of a script: those of sessions, those that steer streams or wait for them, and the one that ends the server.
 
 use pqformat::Text;
 use replcmd::{is_slot_name, parse_position};
-use schedule::{Event, WorldFault};
+use schedule::{BadLine, Dialect, Event, LineRefusal};
 use std::alloc::Global;
+use std::time::Duration;
 
 /// One line.
 #[derive(Drop)]
 pub enum Step {
     /// A session does this.
     Session(Event),
-    /// The stream of the slot of this name is waited for, or steered.
+    /// `commit T`: the transaction of this name commits at the time of the clock.
+    CommitNow(Text),
+    /// The stream of the slot of this name is steered.
     Steer(Text, Steering),
+    Await(Await),
     /// `end`: the server ends.
     End,
 }
@@ -19,8 +23,6 @@ pub enum Step {
 /// What becomes of the stream of a slot S.
 #[derive(Clone, Copy)]
 pub enum Steering {
-    /// `await S POSITION`: nothing, but the lines behind wait until the slot is confirmed there or further.
-    Await(u64),
     /// `hold S`: nothing of it is written, until it is let go.
     Hold,
     /// `resume S`
@@ -31,29 +33,51 @@ pub enum Steering {
     Cut(u64),
 }
 
+/// `await S POSITION`, `await S stream`: the lines behind wait for this, for so many seconds if they are told.
+#[derive(Drop)]
+pub struct Await {
+    pub slot: Text,
+    pub until: Until,
+    pub patience: Option<Duration>,
+}
+
+/// What is waited for.
+#[derive(Clone, Copy)]
+pub enum Until {
+    /// The slot is confirmed at this position or further.
+    Confirmed(u64),
+    /// A stream of the slot runs.
+    Stream,
+}
+
+/// In the place of a position.
+const STREAM: &str = "stream";
+
 impl Step {
-    /// The step that a line spells. V1 where it is no such line, V2 where there was no memory for it.
-    pub fn parse(alloc: Global, line: &str) -> Result<Step, WorldFault> {
+    /// The step that a line spells, without its line end.
+    pub fn parse(alloc: Global, line: &str) -> Result<Step, LineRefusal> {
         let (word, rest) = line.split_once(' ').unwrap_or((line, ""));
         match word {
             "end" if rest.is_empty() => Ok(Step::End),
+            "end" => Err(LineRefusal::Bad(BadLine::OneFieldMore)),
             "await" => awaited(alloc, rest),
             "hold" => steer(alloc, rest, Steering::Hold),
             "resume" => steer(alloc, rest, Steering::Resume),
             "ask" => steer(alloc, rest, Steering::Ask),
             "cut" => cut(alloc, rest),
+            "commit" if !rest.contains(' ') => commit_now(alloc, line),
             _ => session(alloc, line),
         }
     }
 }
 
-fn session(alloc: Global, line: &str) -> Result<Step, WorldFault> {
-    let event = Event::parse(alloc, line)?;
+fn session(alloc: Global, line: &str) -> Result<Step, LineRefusal> {
+    let event = Event::read(alloc, line, Dialect::Script)?;
     if is_of_session(&event) {
         Ok(Step::Session(event))
     } else {
         drop(event);
-        Err(WorldFault::BadEvent)
+        Err(LineRefusal::Bad(BadLine::NotHere))
     }
 }
 
@@ -64,32 +88,72 @@ fn is_of_session(event: &Event) -> bool {
     }
 }
 
-fn awaited(alloc: Global, rest: &str) -> Result<Step, WorldFault> {
-    let Some((slot, position)) = rest.split_once(' ') else {
-        return Err(WorldFault::BadEvent);
-    };
-    match parse_position(position) {
-        Ok(position) => steer(alloc, slot, Steering::Await(position)),
-        Err(_) => Err(WorldFault::BadEvent),
+/// A commit's line without its time is an abort's, but for its word.
+fn commit_now(alloc: Global, line: &str) -> Result<Step, LineRefusal> {
+    let name = line.strip_prefix("commit").unwrap_or("");
+    let abort = format!(in alloc; "abort{name}")?;
+    match Event::read(alloc, abort.as_str(), Dialect::Script)? {
+        Event::Session(name, _) => Ok(Step::CommitNow(name)),
+        _ => Err(LineRefusal::Bad(BadLine::Word)),
     }
 }
 
-fn cut(alloc: Global, rest: &str) -> Result<Step, WorldFault> {
+fn awaited(alloc: Global, rest: &str) -> Result<Step, LineRefusal> {
+    let Some((slot, rest)) = rest.split_once(' ') else {
+        return Err(LineRefusal::Bad(BadLine::MissingField));
+    };
+    let (until, seconds) = match rest.split_once(' ') {
+        Some((until, seconds)) => (until, Some(seconds)),
+        None => (rest, None),
+    };
+    Ok(Step::Await(Await {
+        until: until_of(until)?,
+        patience: patience_of(seconds)?,
+        slot: slot_of(alloc, slot)?,
+    }))
+}
+
+fn until_of(text: &str) -> Result<Until, LineRefusal> {
+    if text == STREAM {
+        return Ok(Until::Stream);
+    }
+    match parse_position(text) {
+        Ok(position) => Ok(Until::Confirmed(position)),
+        Err(_) => Err(LineRefusal::Bad(BadLine::Position)),
+    }
+}
+
+fn patience_of(seconds: Option<&str>) -> Result<Option<Duration>, LineRefusal> {
+    match seconds {
+        Some(text) => Ok(Some(Duration::from_secs(u64::from(seconds_of(text)?)))),
+        None => Ok(None),
+    }
+}
+
+fn seconds_of(text: &str) -> Result<u32, LineRefusal> {
+    match text.parse::<u32>() {
+        Ok(seconds) if !text.starts_with('+') => Ok(seconds),
+        _ => Err(LineRefusal::Bad(BadLine::Number)),
+    }
+}
+
+fn cut(alloc: Global, rest: &str) -> Result<Step, LineRefusal> {
     let Some((slot, bytes)) = rest.split_once(' ') else {
         return steer(alloc, rest, Steering::Cut(0));
     };
-    if bytes.starts_with('+') {
-        return Err(WorldFault::BadEvent);
-    }
     match bytes.parse::<u64>() {
-        Ok(bytes) => steer(alloc, slot, Steering::Cut(bytes)),
-        Err(_) => Err(WorldFault::BadEvent),
+        Ok(count) if !bytes.starts_with('+') => steer(alloc, slot, Steering::Cut(count)),
+        _ => Err(LineRefusal::Bad(BadLine::Number)),
     }
 }
 
-fn steer(alloc: Global, slot: &str, steering: Steering) -> Result<Step, WorldFault> {
+fn steer(alloc: Global, slot: &str, steering: Steering) -> Result<Step, LineRefusal> {
+    Ok(Step::Steer(slot_of(alloc, slot)?, steering))
+}
+
+fn slot_of(alloc: Global, slot: &str) -> Result<Text, LineRefusal> {
     if !is_slot_name(slot) {
-        return Err(WorldFault::BadEvent);
+        return Err(LineRefusal::Bad(BadLine::SlotName));
     }
-    Ok(Step::Steer(Text::copy_of(alloc, slot)?, steering))
+    Ok(Text::copy_of(alloc, slot)?)
 }

@@ -1,16 +1,21 @@
-//! Scripts that steer streams beside what sessions do.
+//! Scripts in files, line by line.
 
-use crate::scripting::done::do_step;
-use crate::scripting::fault::ScriptFault;
-use crate::scripting::leaving::leave_all;
-use crate::scripting::numbered_steps::Steps;
-use crate::scripting::outcome::{Done, tell};
+use super::awaiting::Waiting;
+use super::done::{commit_now, do_event, steer};
+use super::fault::ScriptFault;
+use super::file::Script;
+use super::leaving::leave_all;
+use super::outcome::Done;
+use super::step::{Await, Step};
+use crate::ending::Doors;
+use crate::telling::Told;
 use hub::Hub;
 use schedule::Sessions;
 use shared_log::LogName;
 use slots::SlotName;
-use std::io::Write;
+use std::alloc::AllocError;
 use std::sync::Wait;
+use std::time::Clock;
 
 /// How a script has ended.
 #[derive(Clone, Copy, Debug, PartialEq, Eq)]
@@ -22,36 +27,71 @@ pub enum ScriptEnd {
 
 /// Does the steps of a script in order, each session's under the publisher's lock, and tells streams of each commit and each note.
 ///
-/// For a line that is refused, the script's name, the line's number and the code go to `told`, as in `load 7 S4`, and the script
-/// goes on; for one that steered a stream or has waited for it the same with `ok`. Transactions that are in progress at its end are
-/// left as they are, so that nothing of them commits.
-pub fn run_steps<L: LogName + SlotName, R: Wait, W: Write>(
+/// For a line that is refused, the script's path, the line's number, and code and words are told, as in `load 7 S3 a row with this
+/// key exists`, and the script goes on; for one that steered a stream or has waited for it the same with `ok`. Transactions that
+/// are in progress at its end are left as they are, so that nothing of them commits.
+pub fn run_steps<L: LogName + SlotName, R: Wait + Clock>(
     rt: &R,
     hub: &Hub<L>,
-    name: &str,
-    script: &Steps,
-    told: &mut W,
+    doors: &Doors,
+    script: &Script,
+    told: &Told,
 ) -> Result<ScriptEnd, ScriptFault> {
     let mut sessions = Sessions::new(hub.alloc());
-    let ended = do_steps(rt, hub, name, script, &mut sessions, told);
+    let ended = do_steps(rt, hub, doors, script, &mut sessions, told);
     leave_all(rt, hub, sessions);
-    ended
+    Ok(ended?)
 }
 
-fn do_steps<L: LogName + SlotName, R: Wait, W: Write>(
+fn do_steps<L: LogName + SlotName, R: Wait + Clock>(
     rt: &R,
     hub: &Hub<L>,
-    name: &str,
-    script: &Steps,
+    doors: &Doors,
+    script: &Script,
     sessions: &mut Sessions,
-    told: &mut W,
-) -> Result<ScriptEnd, ScriptFault> {
-    for each in script.as_slice() {
-        let done = do_step(rt, hub, sessions, &each.step)?;
+    told: &Told,
+) -> Result<ScriptEnd, AllocError> {
+    let name = script.path.as_str();
+    for each in script.steps.as_slice() {
+        let done = do_step(rt, hub, doors, sessions, &each.step)?;
         if matches!(done, Done::End) {
             return Ok(ScriptEnd::EndLine);
         }
-        tell(name, each.line, done, told)?;
+        if done.is_told() {
+            told.line(rt, format_args!("{name} {} {done}", each.line));
+        }
     }
     Ok(ScriptEnd::LastLine)
+}
+
+/// Does a step, and waits for what it awaits.
+pub(crate) fn do_step<L: LogName + SlotName, R: Wait + Clock>(
+    rt: &R,
+    hub: &Hub<L>,
+    doors: &Doors,
+    sessions: &mut Sessions,
+    step: &Step,
+) -> Result<Done, AllocError> {
+    match step {
+        Step::Session(event) => do_event(rt, hub, sessions, event),
+        Step::CommitNow(name) => commit_now(rt, hub, sessions, name),
+        Step::Steer(slot, steering) => Ok(steer(rt, hub, slot.as_str(), *steering)),
+        Step::Await(line) => Ok(wait_out(rt, hub, doors, line)),
+        Step::End => Ok(Done::End),
+    }
+}
+
+fn wait_out<L: LogName + SlotName, R: Wait + Clock>(
+    rt: &R,
+    hub: &Hub<L>,
+    doors: &Doors,
+    line: &Await,
+) -> Done {
+    let waiting = Waiting::new(rt, line);
+    for _ in rt.forever() {
+        if let Some(done) = waiting.turn(rt, hub, doors) {
+            return done;
+        }
+    }
+    unreachable!()
 }

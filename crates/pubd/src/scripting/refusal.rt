@@ -1,0 +1,45 @@
+//! Why lines are refused.
+
+use schedule::BadLine;
+use std::fmt;
+use thiserror::Error;
+use txlog::SessionFault;
+
+/// Why a line was refused, which has changed nothing. It is told by its code and words.
+#[derive(Clone, Copy, Debug)]
+pub enum Refusal {
+    /// It is no line.
+    Line(BadLine),
+    /// Its transaction isn't in progress.
+    NoTransaction,
+    /// It begins a transaction that is in progress.
+    SecondBegin,
+    Session(SessionFault),
+    /// Its slot isn't there.
+    NoSlot,
+    Unmet(Unmet),
+}
+
+/// Why nobody waits any more for what a line awaits.
+#[derive(Clone, Copy, Debug, Error)]
+pub enum Unmet {
+    #[error("it was awaited for so long, and did not come")]
+    Late,
+    #[error("no more connections come")]
+    NoConnections,
+    #[error("the server ends")]
+    Ending,
+}
+
+impl fmt::Display for Refusal {
+    fn fmt<W: fmt::Write>(&self, f: &mut fmt::Formatter<W>) -> fmt::Result {
+        match self {
+            Refusal::Line(bad) => write!(f, "V1 {bad}"),
+            Refusal::NoTransaction => f.write_str("V1 no transaction of this name is in progress"),
+            Refusal::SecondBegin => f.write_str("V1 a transaction of this name is in progress"),
+            Refusal::Session(fault) => write!(f, "{} {fault}", fault.code()),
+            Refusal::NoSlot => f.write_str("L1 there is no such slot"),
+            Refusal::Unmet(why) => write!(f, "A1 {why}"),
+        }
+    }
+}
