@@ -12,6 +12,8 @@ SECONDS = 300
 # Where the log begins.
 FIRST = 0x1000000
 OF_CONNECTIONS = "pubd: a connection ", "pubd: connection "
+# What is told of streams that wait, and how often hangs on the moment.
+WAITED = ": L2: ", "further refusals", "chunks are free"
 # Who has no other threads, and whose number of them can be limited.
 NOBODY = 65534
 
@@ -117,11 +119,11 @@ class Server:
 
     def end(self, refused=(), ended=None, waited=False):
         """Waits until it ends, and answers what is wrong with that; these lines of its script are due to be refused, and these of its
-        connections are due, in any order, if it is told which. Where one has waited for a slot, lines that refused it are passed over."""
+        connections are due, in any order, if it is told which. Where streams have waited for a slot or for chunks, lines that tell so are passed over."""
         status = self.process.wait()
         lines = self.process.stderr.read().splitlines()
         said = [line for line in lines if not line.startswith(OF_CONNECTIONS)]
-        told = sorted(line for line in lines if line.startswith(OF_CONNECTIONS) and not (waited and ": L2: " in line))
+        told = sorted(line for line in lines if line.startswith(OF_CONNECTIONS) and not (waited and any(word in line for word in WAITED)))
         due = told if ended is None else sorted(ended)
         wrong = [f"pubd ended with status {status}"] * bool(status)
         wrong += [f"pubd said {said}, and not {list(refused)}"] * (said != list(refused))

@@ -52,7 +52,7 @@ def another_system_is_refused_by_an_output(pubd, subcat):
         for name, left in ("from before", printed_of_inserts(3)), ("without a transaction", printed_of_inserts(1)[:9]):
             output.write_text(left)
             beside.unlink() if name == "from before" else beside.write_text("42\n")
-            with Server(pubd, 2, inserts(5), awaited=1, configuration=other) as server:
+            with Server(pubd, 2, inserts(5), awaited=1, configuration=other, more=["--allow-start-ahead"]) as server:
                 ended = subprocess.run(words_of(subcat, server.port, "--output", output, count=5), timeout=60).returncode
                 server.process.kill()
             wrong += [f"a file {name} ends it with {ended}"] * bool(ended)

@@ -38,7 +38,7 @@ use scripts::{has_ended_server, run_all};
 use shared_log::LogName;
 use slots::SlotName;
 use status_page::serve_status;
-use std::alloc::AllocError;
+use std::alloc::{AllocError, Global};
 use std::io::{Print, Stdin};
 use std::marker::Brand;
 use std::net::{Net, SocketAddr, TcpListener, TcpStream};

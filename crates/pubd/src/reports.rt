@@ -65,7 +65,7 @@ impl<'e, R: Wait> Gate for Reports<'e, R> {
         } else if count == MOST_REFUSALS + 1 {
             self.told.line(
                 self.rt,
-                format_args!("pubd: further refusals of connection {connection} are not told"),
+                format_args!("pubd: connection {connection}: further refusals are not told"),
             );
         }
     }
