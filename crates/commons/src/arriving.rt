@@ -37,7 +37,7 @@ impl<L: LogName + SlotName> Commons<L> {
             Ok(socket) => Ok(self.takes(rt, gate, arrival, socket)),
             Err(fault) if is_of_listener(&fault) => Err(ServeFault::Listener(fault)),
             Err(fault) => {
-                gate.untaken(&Untaken::Accept(fault));
+                gate.untaken(None, &Untaken::Accept(fault));
                 rest(rt);
                 Ok(None)
             }
@@ -131,7 +131,7 @@ impl<L: LogName + SlotName> Commons<L> {
 
     /// Tells a client that it can't be served beside the others. Behind the server's end nobody is told anything.
     fn refuse<G: Gate>(&self, gate: &G, why: Unserved, socket: &TcpStream) {
-        gate.untaken(&Untaken::Closed(why));
+        gate.untaken(socket.peer_addr().ok(), &Untaken::Closed(why));
         if why != Unserved::ServerEnd {
             let mut to = socket;
             let _ = write_trouble(self.alloc, Trouble::Crowd, &mut to);

@@ -2,14 +2,18 @@
 
 use crate::fault::{ConnectionEnd, Untaken};
 use crate::refused_command::RefusedCommand;
+use std::net::SocketAddr;
 
 /// What each command of a connection passes, in the connection's reading thread, before it is answered. Connections and the
 /// commands of each are counted from 1; the greatest number stays.
 pub trait Gate {
     fn before(&self, connection: u32, command: u32);
 
-    /// A connection could not be taken, and the next is.
-    fn untaken(&self, _why: &Untaken) {}
+    /// A connection could not be taken, and the next is. From where it came is told where that is known.
+    fn untaken(&self, _from: Option<SocketAddr>, _why: &Untaken) {}
+
+    /// A connection is served, which came from there.
+    fn begun(&self, _connection: u32, _from: Option<SocketAddr>) {}
 
     /// A command of a connection was refused.
     fn refused(&self, _connection: u32, _what: &RefusedCommand<'_>) {}

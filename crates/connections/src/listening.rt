@@ -1,6 +1,8 @@
 //! What a listener gives, and why it gives nothing.
 
+use libc::net;
 use std::net::{TcpListener, TcpStream};
+use std::os::fd::AsRawFd;
 use std::time::{Clock, Duration};
 use std::{io, thread};
 
@@ -29,7 +31,25 @@ pub fn next_socket(
     socket.set_nodelay(true)?;
     socket.set_read_timeout(silence)?;
     socket.set_write_timeout(stalling)?;
+    keep_alive(&socket);
     Ok(socket)
+}
+
+/// Has the system ask a client that says nothing whether it is there still: after two hours, unless the system is told otherwise
+/// (tcp(7)), as PostgreSQL does. Where it can't be had, the connection is served all the same.
+fn keep_alive(socket: &TcpStream) {
+    let mut on = [0; 16];
+    on[0] = 1;
+    let length = 4;
+    let _ = unsafe {
+        net::setsockopt(
+            socket.as_raw_fd(),
+            net::SOL_SOCKET,
+            net::SO_KEEPALIVE,
+            &on,
+            length,
+        )
+    };
 }
 
 /// Lets a listener rest.

@@ -203,6 +203,7 @@ where
             return None;
         }
         arrival.settle(rt);
+        gate.begun(number, socket.peer_addr().ok());
         Some(read(rt, commons, line, gate, number, socket))
     })
 }

@@ -15,6 +15,7 @@ mod scripting;
 mod scripts;
 mod status_page;
 mod status_text;
+mod talk;
 mod telling;
 mod times;
 mod words;

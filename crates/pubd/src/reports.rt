@@ -2,10 +2,14 @@
 
 use crate::level::Level;
 use crate::questions::Questions;
+use crate::talk::{Talk, Turn};
 use crate::telling::Told;
 use hub::{ConnectionEnd, Gate, RefusedCommand, Untaken};
 use std::alloc::Global;
+use std::fmt::Display;
+use std::net::{IpAddr, SocketAddr};
 use std::sync::{Mutex, Wait};
+use std::time::{Clock, Duration};
 
 /// How many refusals of a connection are told.
 const MOST_REFUSALS: u32 = 20;
@@ -19,52 +23,60 @@ fn is_told(level: Level, end: ConnectionEnd) -> bool {
     }
 }
 
-/// Holds no command, and tells which connections could not be taken, what was refused, and how others have ended.
+/// Holds no command, and tells which connections could not be taken, what was refused, and how others have ended; of the clients at one
+/// address no more than a thousand lines a minute.
 #[derive(Drop)]
-pub struct Reports<'e, R: Wait> {
+pub struct Reports<'e, R: Wait + Clock> {
     rt: &'e R,
     told: &'e Told,
     level: Level,
-    refused: Mutex<Vec<Refused>>,
+    talk: Mutex<Talk>,
     questions: Questions,
 }
 
-/// How many commands of a connection were refused.
-#[derive(Drop)]
-struct Refused {
-    connection: u32,
-    count: u32,
-}
-
-impl<'e, R: Wait> Reports<'e, R> {
+impl<'e, R: Wait + Clock> Reports<'e, R> {
     pub fn new(rt: &'e R, alloc: Global, told: &'e Told, level: Level) -> Self {
         Reports {
             rt,
             told,
             level,
-            refused: Mutex::new(Vec::new(alloc)),
+            talk: Mutex::new(Talk::new(alloc)),
             questions: Questions::new(),
         }
     }
 }
 
-impl<'e, R: Wait> Gate for Reports<'e, R> {
+impl<'e, R: Wait + Clock> Gate for Reports<'e, R> {
     fn before(&self, _connection: u32, _command: u32) {}
 
-    fn untaken(&self, why: &Untaken) {
-        self.told.line(self.rt, format_args!("pubd: {why}"));
+    fn untaken(&self, from: Option<SocketAddr>, why: &Untaken) {
+        let address = from.map(|from| from.ip());
+        self.say(address, format_args!("pubd: {why}"));
+    }
+
+    fn begun(&self, connection: u32, from: Option<SocketAddr>) {
+        let Some(from) = from else {
+            return;
+        };
+        self.talk.lock(self.rt).begin(connection, from);
+        if self.level == Level::Info {
+            self.tell(
+                connection,
+                format_args!("pubd: connection {connection} from {from}"),
+            );
+        }
     }
 
     fn refused(&self, connection: u32, what: &RefusedCommand<'_>) {
         if self.level == Level::Error || !self.questions.is_due(what) {
             return;
         }
-        let count = count_refusal(&mut *self.refused.lock(self.rt), connection);
+        let count = self.talk.lock(self.rt).count_refusal(connection);
         if count <= MOST_REFUSALS {
-            self.tell(connection, what);
+            self.tell_refusal(connection, what);
         } else if count == MOST_REFUSALS + 1 {
-            self.told.line(
-                self.rt,
+            self.tell(
+                connection,
                 format_args!("pubd: connection {connection}: further refusals are not told"),
             );
         }
@@ -72,8 +84,8 @@ impl<'e, R: Wait> Gate for Reports<'e, R> {
 
     fn short_of_chunks(&self, connection: u32, free: usize, chunks: u32) {
         if self.level != Level::Error {
-            self.told.line(
-                self.rt,
+            self.tell(
+                connection,
                 format_args!(
                     "pubd: connection {connection}: {free} of its stream's {chunks} chunks are free: transactions in progress fill the others"
                 ),
@@ -84,15 +96,43 @@ impl<'e, R: Wait> Gate for Reports<'e, R> {
     // What prints takes 3,400 bytes of stack, and so would each connection, from its beginning on.
     #[inline(never)]
     fn ended(&self, connection: u32, why: ConnectionEnd) {
-        forget(&mut *self.refused.lock(self.rt), connection);
+        let address = self.talk.lock(self.rt).end(connection);
         if is_told(self.level, why) {
-            self.told.line(self.rt, format_args!("pubd: connection {connection} {why}"));
+            self.say(address, format_args!("pubd: connection {connection} {why}"));
         }
     }
 }
 
-impl<'e, R: Wait> Reports<'e, R> {
-    fn tell(&self, connection: u32, what: &RefusedCommand<'_>) {
+impl<'e, R: Wait + Clock> Reports<'e, R> {
+    /// Tells a line of a connection.
+    fn tell<D: Display + Drop>(&self, connection: u32, line: D) {
+        let address = self.talk.lock(self.rt).address_of(connection);
+        self.say(address, line);
+    }
+
+    /// Tells a line of a client at this address, unless too many were told of it.
+    fn say<D: Display + Drop>(&self, address: Option<IpAddr>, line: D) {
+        match self.turn(address) {
+            Turn::Told => self.told.line(self.rt, line),
+            Turn::TooMany(address) => self.told.line(
+                self.rt,
+                format_args!(
+                    "pubd: further lines of clients at {address} are not told for a minute"
+                ),
+            ),
+            Turn::Untold => {}
+        }
+    }
+
+    fn turn(&self, address: Option<IpAddr>) -> Turn {
+        let Some(address) = address else {
+            return Turn::Told;
+        };
+        let now = self.rt.monotonic().unwrap_or(Duration::from_secs(0));
+        self.talk.lock(self.rt).turn(address, now)
+    }
+
+    fn tell_refusal(&self, connection: u32, what: &RefusedCommand<'_>) {
         match self.level {
             Level::Error => {}
             Level::Warning => self.tell_shortly(connection, what),
@@ -101,8 +141,8 @@ impl<'e, R: Wait> Reports<'e, R> {
     }
 
     fn tell_whole(&self, connection: u32, what: &RefusedCommand<'_>) {
-        self.told.line(
-            self.rt,
+        self.tell(
+            connection,
             format_args!("pubd: connection {connection}: {what}"),
         );
     }
@@ -111,36 +151,16 @@ impl<'e, R: Wait> Reports<'e, R> {
     fn tell_shortly(&self, connection: u32, what: &RefusedCommand<'_>) {
         match what {
             RefusedCommand::OfSlot(_, _, _) => self.tell_whole(connection, what),
-            RefusedCommand::Start(slot, _, fault) => self.told.line(
-                self.rt,
+            RefusedCommand::Start(slot, _, fault) => self.tell(
+                connection,
                 format_args!(
                     "pubd: connection {connection}: START_REPLICATION of slot {slot}: {fault}"
                 ),
             ),
-            RefusedCommand::Text(_, fault) => self.told.line(
-                self.rt,
+            RefusedCommand::Text(_, fault) => self.tell(
+                connection,
                 format_args!("pubd: connection {connection}: {fault}"),
             ),
         }
     }
-}
-
-/// Counts one more refusal of a connection, and answers how many there are. One that there is no memory for is told.
-fn count_refusal(refused: &mut Vec<Refused>, connection: u32) -> u32 {
-    for each in refused.iter_mut() {
-        if each.connection == connection {
-            each.count = each.count.saturating_add(1);
-            return each.count;
-        }
-    }
-    let _ = refused.push(Refused {
-        connection,
-        count: 1,
-    });
-    1
-}
-
-/// A connection has ended, so nothing of it is refused any more.
-fn forget(refused: &mut Vec<Refused>, connection: u32) {
-    refused.retain(|each| each.connection != connection);
 }
