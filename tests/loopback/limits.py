@@ -267,8 +267,9 @@ def wrong_reports(pubd, more, due):
         return wrong + server.end(ended=told)
 
 
-def a_refusal_names_its_slot(pubd, subcat):
-    """As PostgreSQL names it: one that isn't there, one that is there already, and one that another connection streams from."""
+def a_refusal_names_what_it_is_of(pubd, subcat):
+    """As PostgreSQL names it: a slot that isn't there, that is there already, or that another connection streams from, and a publication
+    where it is the only one that was asked for."""
     with Server(pubd, 2) as server:
         holder, client = Connection(server.port), Connection(server.port)
         holder.create("s")
@@ -280,6 +281,9 @@ def a_refusal_names_its_slot(pubd, subcat):
             ("CREATE_REPLICATION_SLOT s LOGICAL pgoutput", "42710", 'replication slot "s" already exists'),
             (start.format("s"), "55006", 'replication slot "s" is active'),
             ("DROP_REPLICATION_SLOT s", "55006", 'replication slot "s" is active'),
+            (start.format("s").replace("'p'", "'no'"), "42704", 'publication "no" does not exist'),
+            (start.format("s").replace("'p'", f"'{'p' * 64}'"), "42704", "publication does not exist"),
+            (start.format("s").replace("'p'", "'p, no'"), "42704", "publication does not exist"),
         ]
         wrong = wrong_texts(client, due)
         for each in (holder, client):

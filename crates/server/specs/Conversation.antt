@@ -53,7 +53,7 @@ Runs database Identify begins asked text = (end : ℕ) × (systemid : List ℕ) 
 Runs database (Create slot) begins asked text = (answer : Result ℕ DeskFault) × (asked ≡ CreateSlot slot answer ∷ []) × (text ≡ answer_to_create slot answer) × (begins ≡ false)
 Runs database (Drop slot) begins asked text = (answer : Result (Unit {0}) DeskFault) × (asked ≡ DropSlot slot answer ∷ []) × (text ≡ answer_to_drop slot answer) × (begins ≡ false)
 Runs database (Start slot position options) begins asked text =
-    (answer : Result (Unit {0}) DeskFault) × (asked ≡ StartStream slot position options answer ∷ []) × (text ≡ answer_to_start slot answer) × (begins ≡ is_ok answer)
+    (answer : Result (Unit {0}) DeskFault) × (asked ≡ StartStream slot position options answer ∷ []) × (text ≡ answer_to_start slot options.publications answer) × (begins ≡ is_ok answer)
 
 -- the slot of a command to make one is no longer than slots' names are
 abbrev pub HasShortSlot : Command → Type 0

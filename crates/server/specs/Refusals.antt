@@ -1,7 +1,7 @@
 -- What an ErrorResponse says of each cause (PostgreSQL 15, appendix A): the code, and the text.
-use Rattle.std.specs.Prelude.{ℕ, List, ◌++◌, length, nat_le, codes, if◌then◌else◌}
-use Rattle.replcmd.specs.declared.words.TheConstants.{MOST_SLOT_NAME_BYTES}
+use Rattle.std.specs.Prelude.{ℕ, List, [], ◌∷◌, ◌++◌, length, nat_le, Option, Some, None, codes, if◌then◌else◌}
 use Rattle.replcmd.specs.Position.{position_text}
+use Rattle.server.specs.declared.naming.TheConstants.{MOST_NAME_BYTES}
 use Rattle.replcmd.specs.declared.fault.CmdFault.{CmdFault}
 use Rattle.replcmd.specs.declared.fault.CmdFault.TheVariants as commands
 use Rattle.server.specs.declared.desk_fault.DeskFault.{DeskFault}
@@ -66,7 +66,7 @@ refusal_text (Command fault) = command_text fault
 refusal_text (Question fault) = codes "not answered without --answer-postgresql"
 refusal_text (Asked fault) = desk_text fault
 
--- what a slot is that refuses, named as PostgreSQL 15 names it
+-- what is at fault, named as PostgreSQL 15 names it
 abbrev pub named_slot : List ℕ → List ℕ → List ℕ
 named_slot slot state = codes "replication slot \"" ++ slot ++ codes "\" " ++ state
 
@@ -74,7 +74,9 @@ named_slot slot state = codes "replication slot \"" ++ slot ++ codes "\" " ++ st
 abbrev pub ahead_text : StartAhead → List ℕ
 ahead_text ahead = codes "start " ++ position_text ahead.start ++ codes " is ahead of " ++ position_text ahead.reached ++ codes ", all that its slot has sent: the publisher began anew"
 
--- the text of a fault of this slot; a name that no slot may have, since it is too long, isn't repeated
+abbrev pub named_publication : List ℕ → List ℕ
+named_publication name = codes "publication \"" ++ name ++ codes "\" does not exist"
+
 abbrev pub state_text : DeskFault → List ℕ → List ℕ
 state_text desks.SlotMissing slot = named_slot slot (codes "does not exist")
 state_text desks.SlotInUse slot = named_slot slot (codes "is active")
@@ -82,5 +84,21 @@ state_text desks.SlotExists slot = named_slot slot (codes "already exists")
 state_text (desks.StartAhead ahead) slot = ahead_text ahead
 state_text fault slot = desk_text fault
 
+-- the text of a fault of this slot; a name that is too long for one isn't repeated
 abbrev pub slot_text : DeskFault → List ℕ → List ℕ
-slot_text fault slot = if nat_le (length slot) MOST_SLOT_NAME_BYTES then state_text fault slot else desk_text fault
+slot_text fault slot = if nat_le (length slot) MOST_NAME_BYTES then state_text fault slot else desk_text fault
+
+abbrev pub only_name : List (List ℕ) → Option (List ℕ)
+only_name [] = None
+only_name (name ∷ []) = Some name
+only_name (name ∷ another ∷ names) = None
+
+-- a publication that isn't there is named where no other was asked for
+abbrev pub publication_text : Option (List ℕ) → List ℕ
+publication_text None = desk_text desks.UnknownPublication
+publication_text (Some name) = if nat_le (length name) MOST_NAME_BYTES then named_publication name else desk_text desks.UnknownPublication
+
+-- of a stream from this slot and of these publications
+abbrev pub start_text : DeskFault → List ℕ → List (List ℕ) → List ℕ
+start_text desks.UnknownPublication slot names = publication_text (only_name names)
+start_text fault slot names = slot_text fault slot

@@ -17,7 +17,7 @@ use Rattle.server.specs.declared.service.Dialect.{Dialect}
 use Rattle.server.specs.declared.service.Dialect.TheVariants.{Commands, Questions}
 use Rattle.server.specs.declared.service.Service.{Service}
 use Rattle.server.specs.declared.refusal.Refusal.TheVariants.{NoReplication}
-use Rattle.server.specs.Refusals.{refusal_code, refusal_text, desk_code, slot_text}
+use Rattle.server.specs.Refusals.{refusal_code, refusal_text, desk_code, slot_text, start_text}
 
 -- a frame as it is sent
 unfoldable pub sent_frame : Back → List ℕ
@@ -44,6 +44,10 @@ error_and_ready refusal = error_of_refusal refusal ++ ready
 -- what was asked of this slot is refused: the session goes on
 unfoldable pub slot_refused : DeskFault → List ℕ → List ℕ
 slot_refused fault slot = sent_frame (error_frame (desk_code fault) (slot_text fault slot)) ++ ready
+
+-- and so is a stream from this slot and of these publications
+unfoldable pub start_refused : DeskFault → List ℕ → List (List ℕ) → List ℕ
+start_refused fault slot names = sent_frame (error_frame (desk_code fault) (start_text fault slot names)) ++ ready
 
 -- ---- the beginning of a session
 
@@ -129,9 +133,9 @@ answer_to_drop slot (Ok u) = sent_frame (completion (codes "DROP_REPLICATION_SLO
 answer_to_drop slot (Err fault) = slot_refused fault slot
 
 -- START_REPLICATION: the stream begins
-unfoldable pub answer_to_start : List ℕ → Result (Unit {0}) DeskFault → List ℕ
-answer_to_start slot (Ok u) = sent_frame (CopyBothResponse (record { format = 0; formats = [] }))
-answer_to_start slot (Err fault) = slot_refused fault slot
+unfoldable pub answer_to_start : List ℕ → List (List ℕ) → Result (Unit {0}) DeskFault → List ℕ
+answer_to_start slot names (Ok u) = sent_frame (CopyBothResponse (record { format = 0; formats = [] }))
+answer_to_start slot names (Err fault) = start_refused fault slot names
 
 -- the end of a stream, behind all of it: the command that began it is complete
 unfoldable pub end_of_stream : List ℕ

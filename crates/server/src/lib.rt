@@ -10,6 +10,7 @@ mod desk;
 mod desk_fault;
 mod fault;
 mod list;
+mod naming;
 mod opening;
 mod query;
 mod question;
@@ -20,8 +21,8 @@ mod say;
 mod say_answers;
 mod service;
 mod session;
-mod slot_refusal;
 mod stage;
+mod starting;
 mod streaming;
 mod table_name;
 mod turn;
@@ -35,10 +36,11 @@ pub use question::{Question, no_text_asks_two_questions, question_of};
 pub use refusal::Refusal;
 pub use say::{
     say_created, say_dropped, say_ended, say_greeting, say_identified, say_refused,
-    say_refused_ready, say_started,
+    say_refused_ready,
 };
 pub use say_answers::{
     say_found_tables, say_mode, say_other_greeting, say_path_set, say_publications,
 };
 pub use service::{Dialect, Service};
+pub use starting::say_started;
 pub use table_name::TableName;

@@ -8,7 +8,8 @@ use crate::database::Database;
 use crate::desk::Desk;
 use crate::desk_fault::DeskFault;
 use crate::refusal::Refusal;
-use crate::say::{say_created, say_dropped, say_identified, say_refused_ready, say_started};
+use crate::say::{say_created, say_dropped, say_identified, say_refused_ready};
+use crate::starting::say_started;
 use bytes::BytesMut;
 use pqformat::Text;
 use replcmd::{CmdFault, Command, StreamOptions, parse_command};
@@ -72,7 +73,13 @@ fn start<D: Desk>(
 {
     let answer = desk.start(slot.as_str(), position, options);
     let begun = has_begun(answer);
-    say_started(alloc, out, slot.as_str(), answer)?;
+    say_started(
+        alloc,
+        out,
+        slot.as_str(),
+        options.publications.as_slice(),
+        answer,
+    )?;
     Ok(begun)
 }
 

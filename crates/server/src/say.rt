@@ -8,16 +8,16 @@ ghost use Rattle.frames.specs.declared.data_row.DataValue.TheVariants.{Bytes};
 ghost use Rattle.frames.specs.declared.back.Back.TheVariants.{AuthenticationOk, ErrorResponse as ErrorFrame, CopyDone};
 ghost use Rattle.pqformat.specs.Putting.{Puts};
 ghost use Rattle.replcmd.specs.Position.{position_text};
-ghost use Rattle.server.specs.Said.{sent_frame, error_frame, error_of_refusal, error_and_ready, ready, greeting, completion, status, column_of, text_type, int4_type, IsSmall, identity_columns, identity_values, slot_columns, slot_values, key_frame, columns_frame, values_frame, slot_made, answer_to_identify, answer_to_create, answer_to_drop, answer_to_start, end_of_stream};
+ghost use Rattle.server.specs.Said.{sent_frame, error_frame, error_of_refusal, error_and_ready, ready, greeting, completion, status, column_of, text_type, int4_type, IsSmall, identity_columns, identity_values, slot_columns, slot_values, key_frame, columns_frame, values_frame, slot_made, answer_to_identify, answer_to_create, answer_to_drop, end_of_stream};
 
 use crate::answer_rows::{identity_columns, identity_values, slot_columns, slot_values};
 use crate::desk_fault::DeskFault;
+use crate::naming::say_slot_refused;
 use crate::refusal::Refusal;
-use crate::slot_refusal::say_slot_refused;
 use bytes::BytesMut;
 use frames::{
-    Back, BackendKeyData, ColumnDescription, ColumnType, CommandComplete, CopyBothResponse,
-    DataRow, DataValue, ErrorField, ErrorResponse, Parameter, RowDescription, Status, write_back,
+    Back, BackendKeyData, ColumnDescription, ColumnType, CommandComplete, DataRow, DataValue,
+    ErrorField, ErrorResponse, Parameter, RowDescription, Status, write_back,
 };
 use pqformat::{Items, Text};
 use replcmd::write_position;
@@ -38,7 +38,7 @@ pub const NO_MODIFIER: i32 = -1;
 pub const NO_ATTRIBUTE: i16 = 0;
 
 #[tactic(auto, using(pqformat::proofs::Putting::in_place), unfolding(crate::specs::Said::sent_frame))]
-fn say(out: &mut BytesMut, frame: Back) -> Result<(), AllocError>
+pub(crate) fn say(out: &mut BytesMut, frame: Back) -> Result<(), AllocError>
     requires length { FitsLength (back_body frame) }
     requires counts { HasCounts frame }
     ensures { Puts result out.old.items out.new.items (sent_frame frame) }
@@ -235,28 +235,6 @@ pub fn say_dropped(
         Ok(()) => {
             say_completed(alloc, out, "DROP_REPLICATION_SLOT")?;
             say_ready(out)
-        }
-        Err(fault) => say_slot_refused(alloc, out, fault, slot),
-    }
-}
-
-/// The answer of START_REPLICATION.
-#[tactic(auto, using(pqformat::proofs::Putting::in_place), unfolding(crate::specs::Said::answer_to_start, pqformat::specs::Fields::int32, pqformat::specs::Fields::int16))]
-pub fn say_started(
-    alloc: Global,
-    out: &mut BytesMut,
-    slot: &str,
-    answer: Result<(), DeskFault>,
-) -> Result<(), AllocError>
-    ensures { Puts result out.old.items out.new.items (answer_to_start slot.now answer) }
-{
-    match answer {
-        Ok(()) => {
-            let formats = Items::new(Vec::new(alloc));
-            say(
-                out,
-                Back::CopyBothResponse(CopyBothResponse { format: 0, formats }),
-            )
         }
         Err(fault) => say_slot_refused(alloc, out, fault, slot),
     }

@@ -9,10 +9,10 @@ returns g c =
     let told = rw c.as_str.ensures.value at c.start-answer.ensures in
     record {
       asked = StartStream c.args.slot.now c.args.position c.args.options.now c.start-answer.result ∷ [];
-      text = answer_to_start c.args.slot.now c.start-answer.result;
+      text = answer_to_start c.args.slot.now c.args.options.now.publications c.start-answer.result;
       fact = (c.start-answer.result, refl, refl, c.has_begun-begun.ensures);
       asks = (c.start-answer.new.self, told, refl);
-      says = rw c.as_str-2.ensures.value at c.in_ok-say_started.ensures;
+      says = rw (c.as_str-2.ensures.value, c.as_slice.ensures) at c.in_ok-say_started.ensures;
     }
 
 pub returns-in_err-say_started : goal.returns-in_err-say_started
@@ -22,7 +22,7 @@ returns-in_err-say_started g c =
     rw p.1 (
       record {
         asked = StartStream c.args.slot.now c.args.position c.args.options.now c.start-answer.result ∷ [];
-        fact = inr (c.has_begun-begun.result, answer_to_start c.args.slot.now c.start-answer.result, (c.start-answer.result, refl, refl, c.has_begun-begun.ensures));
+        fact = inr (c.has_begun-begun.result, answer_to_start c.args.slot.now c.args.options.now.publications c.start-answer.result, (c.start-answer.result, refl, refl, c.has_begun-begun.ensures));
         asks = (c.start-answer.new.self, told, refl);
       },
       c.in_err-say_started.ensures,
