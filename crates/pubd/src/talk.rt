@@ -7,7 +7,8 @@ use std::time::Duration;
 /// How many lines of an address are told within a minute.
 const MOST_LINES: u32 = 1000;
 
-const MINUTE: Duration = Duration::from_secs(60);
+/// For how many seconds lines of an address are counted together.
+const MINUTE: u64 = 60;
 
 /// How many addresses are told apart. Of more the one is forgotten that was told of first.
 const MOST_ADDRESSES: usize = 256;
@@ -108,7 +109,7 @@ impl Talk {
     fn count_line(&mut self, address: IpAddr, now: Duration) -> u32 {
         for spoken in self.addresses.iter_mut() {
             if spoken.address == address {
-                if MINUTE <= now.saturating_sub(spoken.since) {
+                if Duration::from_secs(MINUTE) <= now.saturating_sub(spoken.since) {
                     spoken.since = now;
                     spoken.lines = 0;
                 }
