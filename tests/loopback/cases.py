@@ -43,6 +43,7 @@ from json_lines import (
     lines_of_json_tell_what_a_server_sends,
 )
 from limits import (
+    a_client_that_says_nothing_is_asked_for_by_the_system,
     a_client_too_many_is_heard_out,
     a_column_of_no_type_is_named,
     a_place_is_never_used_again,
@@ -53,6 +54,7 @@ from limits import (
     an_end_is_told_with_its_cause,
     as_many_are_served_as_may_be,
     only_what_is_asked_for_is_told,
+    what_is_told_of_an_address_is_bounded,
     why_a_connection_is_not_taken_is_told,
 )
 from large import a_transaction_that_is_too_large_is_passed_once_it_is_undone
@@ -426,6 +428,8 @@ ALL = [
     a_server_that_was_stopped_goes_on,
     a_held_stream_is_not_cut_for_silence,
     a_drop_that_waits_ends_with_its_client,
+    a_client_that_says_nothing_is_asked_for_by_the_system,
+    what_is_told_of_an_address_is_bounded,
     an_end_is_told_with_its_cause,
     only_what_is_asked_for_is_told,
     a_refusal_is_told_with_what_was_asked,

@@ -1,5 +1,6 @@
 """What is limited: connections at once, the time of a startup, places for slots; and what is told of how connections end."""
 import os
+import pathlib
 import shutil
 import struct
 import subprocess
@@ -18,6 +19,8 @@ LATER, LATEST = 1.5, 10
 PLACES = 16
 # How many clients that are too many are heard out at once.
 MOST_HEARD = 16
+# How many lines are told of an address within a minute.
+MOST_LINES = 1000
 # What a client may send before its startup, and what the server answers.
 SSL_REQUEST, GSS_REQUEST = (struct.pack(">II", 8, number) for number in (80_877_103, 80_877_104))
 CANCEL_REQUEST = struct.pack(">IIII", 16, 80_877_102, 1, 1)
@@ -200,7 +203,7 @@ def an_end_is_told_with_its_cause(pubd, subcat):
         ask_until_it_is_closed(stalled)
         for client in (polite, wrong, silent, stalled):
             client.close()
-        return server.end(
+        told = server.end(
             ended=[
                 "pubd: connection 1 closed by its client",
                 "pubd: connection 2 closed by its client",
@@ -210,6 +213,43 @@ def an_end_is_told_with_its_cause(pubd, subcat):
                 "pubd: connection 6 closed: its client took nothing for wal_sender_timeout",
             ]
         )
+        return told + [f"of six connections it tells from where {server.begun} come"] * (len(server.begun) != 6)
+
+
+def what_is_told_of_an_address_is_bounded(pubd, subcat):
+    """Of clients that are too many, of which each costs a line: a thousand lines a minute, and one that says so."""
+    with tempfile.TemporaryFile("w+") as errors:
+        words = [pubd, "--max-connections", "1", CONFIGURATION, "127.0.0.1:0", "forever", "-"]
+        process = subprocess.Popen(words, stdin=subprocess.PIPE, stdout=subprocess.PIPE, stderr=errors, text=True)
+        port = int(process.stdout.readline().rpartition(":")[2])
+        one = Connection(port)
+        for _ in range(MOST_LINES + 50):
+            try:
+                Connection(port).close()
+            except (EOFError, ConnectionError):
+                pass
+        one.close()
+        process.communicate("end\n", timeout=60)
+        errors.seek(0)
+        told = errors.read().splitlines()
+    crowd = sum("max_connections" in line for line in told)
+    last = "pubd: further lines of clients at 127.0.0.1 are not told for a minute"
+    return [f"{crowd} lines are told, and then {told[-1:]}"] * ((crowd, told.count(last)) != (MOST_LINES, 1))
+
+
+def has_keepalive(port):
+    """Whether a timer of TCP's keepalive runs at the server's end of its connections: proc(5), /proc/net/tcp."""
+    rows = [line.split() for line in pathlib.Path("/proc/net/tcp").read_text().splitlines()[1:]]
+    return [row[5].startswith("02:") for row in rows if row[1].endswith(f":{port:04X}") and row[3] == "01"]
+
+
+def a_client_that_says_nothing_is_asked_for_by_the_system(pubd, subcat):
+    """Also one without a stream."""
+    with Server(pubd, 1) as server:
+        client = Connection(server.port)
+        runs = has_keepalive(server.port)
+        client.close()
+        return server.end() + [f"keepalive runs: {runs}"] * (runs != [True])
 
 
 def ask_until_it_is_closed(client):

@@ -1,6 +1,7 @@
 """A running pubd, with a script."""
 import os
 import pathlib
+import re
 import shutil
 import subprocess
 import tempfile
@@ -12,6 +13,8 @@ SECONDS = 300
 # Where the log begins.
 FIRST = 0x1000000
 OF_CONNECTIONS = "pubd: a connection ", "pubd: connection "
+# What is told at info of a connection that begins: from where it comes.
+BEGUN = re.compile(r"pubd: connection \d+ from 127\.0\.0\.1:\d+$")
 # What is told of streams that wait, and how often hangs on the moment.
 WAITED = ": L2: ", "further refusals", "chunks are free"
 # Who has no other threads, and whose number of them can be limited.
@@ -123,7 +126,9 @@ class Server:
         status = self.process.wait()
         lines = self.process.stderr.read().splitlines()
         said = [line for line in lines if not line.startswith(OF_CONNECTIONS)]
-        told = sorted(line for line in lines if line.startswith(OF_CONNECTIONS) and not (waited and any(word in line for word in WAITED)))
+        self.begun = [line for line in lines if BEGUN.match(line)]
+        told = [line for line in lines if line.startswith(OF_CONNECTIONS) and line not in self.begun]
+        told = sorted(line for line in told if not (waited and any(word in line for word in WAITED)))
         due = told if ended is None else sorted(ended)
         wrong = [f"pubd ended with status {status}"] * bool(status)
         wrong += [f"pubd said {said}, and not {list(refused)}"] * (said != list(refused))
