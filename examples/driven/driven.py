@@ -24,9 +24,9 @@ class Refused(Exception):
 
 
 class Publisher:
-    def __init__(self, pubd, configuration, connections="forever", options=(), port=0):
+    def __init__(self, pubd, configuration, connections="forever", options=(), port=0, errors=None):
         words = [pubd, *options, configuration, f"127.0.0.1:{port}", str(connections), "-"]
-        self.process = subprocess.Popen(words, stdin=subprocess.PIPE, stdout=subprocess.PIPE, text=True, bufsize=1)
+        self.process = subprocess.Popen(words, stdin=subprocess.PIPE, stdout=subprocess.PIPE, stderr=errors, text=True, bufsize=1)
         self.port = self.port_told()
         self.status_port = self.port_told() if "--status" in options else None
 

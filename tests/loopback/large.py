@@ -1,6 +1,7 @@
 """Transactions that are larger than a stream's chunks. Each case answers what is wrong, a line each."""
 import pathlib
 import sys
+import tempfile
 
 from connection import Connection, position
 from server import CONFIGURATION
@@ -13,8 +14,8 @@ ROWS = 140
 LONG = "n" * 7900
 
 
-def fill(publisher, name):
-    for key in range(ROWS):
+def fill(publisher, name, rows=ROWS):
+    for key in range(rows):
         publisher.say(f"insert {name} public.item ({key},'{LONG}',7)")
 
 
@@ -56,3 +57,23 @@ def code_of_end(client):
         kind, body = client.frame()
         if kind == b"E":
             return next(field[1:].decode() for field in body.split(b"\0") if field[:1] == b"C")
+
+
+def a_stream_whose_chunks_run_short_is_told_of(pubd, subcat):
+    """Once, as long as they do: of 64 chunks, of which each holds two rows, a transaction in progress takes 60. Then it is sent whole."""
+    with tempfile.TemporaryFile("w+") as errors, Publisher(pubd, CONFIGURATION, errors=errors) as publisher:
+        client = Connection(publisher.port)
+        client.create("s")
+        client.start("s")
+        publisher.say("begin B")
+        fill(publisher, "B", 120)
+        for key in (3000, 3001):
+            publisher.commit(f"insert public.item ({key},'b',7)", time=6)
+        end = position(publisher.say("commit B 7"))
+        wrong = [f"transactions end at {ends}" for ends in [client.commits(3)] if ends[-1] != end]
+        client.close()
+        publisher.end()
+        errors.seek(0)
+        told = [line for line in errors.read().splitlines() if "chunks" in line]
+    due = ["pubd: connection 1: 4 of its stream's 64 chunks are free: transactions in progress fill the others"]
+    return wrong + [f"it tells {told}"] * (told != due)
