@@ -4,6 +4,7 @@ import socket
 import sys
 
 from connection import Connection, position, status
+from driving import wrong_refusal
 from server import CONFIGURATION, Server
 
 sys.path.insert(0, str(pathlib.Path(__file__).resolve().parent.parent.parent / "examples" / "driven"))
@@ -120,14 +121,6 @@ def a_client_is_asked_and_awaited(pubd, subcat):
             wrong += wrong_refusal(publisher, line, due)
         client.close()
         return wrong
-
-
-def wrong_refusal(publisher, line, due):
-    try:
-        publisher.say(line)
-        return [f"{line!r} is done"]
-    except Refused as refused:
-        return [f"{line!r} is refused by {refused}"] * (refused.code != due)
 
 
 def a_server_ends_in_order(pubd, subcat):
