@@ -8,7 +8,7 @@ from driving import wrong_refusal
 from server import CONFIGURATION, Server
 
 sys.path.insert(0, str(pathlib.Path(__file__).resolve().parent.parent.parent / "examples" / "driven"))
-from driven import Publisher, Refused
+from driven import Publisher
 
 # How long a stream is watched that is to say nothing.
 SILENCE = 0.3
