@@ -1,5 +1,6 @@
 """Transactions that are larger than a stream's chunks. Each case answers what is wrong, a line each."""
 import pathlib
+import re
 import sys
 import tempfile
 
@@ -75,5 +76,6 @@ def a_stream_whose_chunks_run_short_is_told_of(pubd, subcat):
         publisher.end()
         errors.seek(0)
         told = [line for line in errors.read().splitlines() if "chunks" in line]
-    due = ["pubd: connection 1: 4 of its stream's 64 chunks are free: transactions in progress fill the others"]
-    return wrong + [f"it tells {told}"] * (told != due)
+    # A chunk of the small transaction may not have come back yet.
+    due = r"pubd: connection 1: [34] of its stream's 64 chunks are free: transactions in progress fill the others"
+    return wrong + [f"it tells {told}"] * (len(told) != 1 or not re.fullmatch(due, told[0]))
