@@ -238,7 +238,7 @@ def what_is_told_of_an_address_is_bounded(pubd, subcat):
 
 
 def has_keepalive(port):
-    """Whether a timer of TCP's keepalive runs at the server's end of its connections: proc(5), /proc/net/tcp."""
+    """Of each connection of a server, whether a timer of TCP's keepalive runs at its end: proc(5), /proc/net/tcp."""
     rows = [line.split() for line in pathlib.Path("/proc/net/tcp").read_text().splitlines()[1:]]
     return [row[5].startswith("02:") for row in rows if row[1].endswith(f":{port:04X}") and row[3] == "01"]
 
@@ -247,7 +247,10 @@ def a_client_that_says_nothing_is_asked_for_by_the_system(pubd, subcat):
     """Also one without a stream."""
     with Server(pubd, 1) as server:
         client = Connection(server.port)
-        runs = has_keepalive(server.port)
+        # Until its last answer is acknowledged another timer runs in its place.
+        until = time.monotonic() + LATEST
+        while (runs := has_keepalive(server.port)) != [True] and time.monotonic() < until:
+            time.sleep(0.05)
         client.close()
         return server.end() + [f"keepalive runs: {runs}"] * (runs != [True])
 
