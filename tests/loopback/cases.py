@@ -27,6 +27,11 @@ from driving import (
     words_of_the_command_line_are_read,
 )
 from edges import a_slow_reader_of_the_page_holds_up_nobody, closed_descriptors_are_nobody_s, nobody_waits_for_a_reader_of_what_is_told
+from extended import (
+    a_frame_of_an_extended_query_has_its_bounds,
+    a_stream_takes_no_extended_query,
+    an_extended_query_is_refused_and_its_session_goes_on,
+)
 from followers import (
     a_refusal_without_a_reason_is_one_all_the_same,
     acknowledgements_follow_what_was_printed,
@@ -373,6 +378,9 @@ LONG = [
 ]
 ALL = [
     a_conversation_goes_frame_by_frame,
+    an_extended_query_is_refused_and_its_session_goes_on,
+    a_frame_of_an_extended_query_has_its_bounds,
+    a_stream_takes_no_extended_query,
     a_stream_tells_where_it_is,
     a_start_ahead_of_its_slot_is_refused,
     nothing_is_lost_with_connections,

@@ -2,6 +2,8 @@ pub mod Steps
 pub mod Names
 pub mod Parameters
 pub mod Segments
+pub mod Extending
+pub mod Passing
 pub mod Turning
 pub mod Quotes
 pub mod Lists

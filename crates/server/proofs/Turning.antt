@@ -34,7 +34,7 @@ use Rattle.server.proofs.Segments.{went-none, went-one}
 
 -- ---- what is read takes bytes
 
-read_fault : {X : Type 0} (fault : FrameFault) (read : Result X FrameFault) → fault ≢ Memory → Gives (Err fault) read → read ≡ Err fault
+pub read_fault : {X : Type 0} (fault : FrameFault) (read : Result X FrameFault) → fault ≢ Memory → Gives (Err fault) read → read ≡ Err fault
 read_fault BadLength read other is = is
 read_fault BadVersion read other is = is
 read_fault UnknownType read other is = is
@@ -43,7 +43,7 @@ read_fault NotUtf8 read other is = is
 read_fault TooLong read other is = is
 read_fault Memory read other is = absurd (other refl)
 
-front_has : (text : List ℕ) (f : Front) → SpellsFront text f → 0 < length text
+pub front_has : (text : List ℕ) (f : Front) → SpellsFront text f → 0 < length text
 front_has text f spells = rw spells.text (omega arith)
 
 startup_has : (text : List ℕ) (f : Startup) → SpellsStartup text f → 0 < length text
@@ -51,7 +51,7 @@ startup_has text f spells =
     let coded : List ℕ = int32 (startup_number f) ++ startup_body f in
     rw spells.text (omega (arith, length-append (int32 (8 + length (startup_body f))) coded, length-int32 (8 + length (startup_body f))))
 
-faulty_front : (bytes : List ℕ) (fault : FrameFault) → framed_front bytes ≡ Err fault → 0 < length bytes
+pub faulty_front : (bytes : List ℕ) (fault : FrameFault) → framed_front bytes ≡ Err fault → 0 < length bytes
 faulty_front [] fault is = absurd cc
 faulty_front (b ∷ bytes) fault is = omega arith
 
@@ -59,13 +59,13 @@ faulty_startup : (bytes : List ℕ) (fault : FrameFault) → framed_startup byte
 faulty_startup [] fault is = absurd cc
 faulty_startup (b ∷ bytes) fault is = omega arith
 
-front_of_some : (n : ℕ) (bytes : List ℕ) → n ≤ length bytes → 0 < length (take n bytes) → 0 < n
+pub front_of_some : (n : ℕ) (bytes : List ℕ) → n ≤ length bytes → 0 < length (take n bytes) → 0 < n
 front_of_some n bytes le some = rw (length-take-le n bytes le) at some
 
 -- ---- turns
 
 pub front_turned : {D : Type 0} (told : D → Call → D → Type 0) (service : Service) (stage : Stage) (Answers : Front → List Call → List ℕ → Stage → Type 0) (pending : List ℕ) (count : ℕ) (front : Front) (next : Stage) (Same : Type 0) (desk : D) (out : List ℕ) (desk' : D) (out' : List ℕ)
-    → ((t : Turn) (n : Stage) → IsFrameTurn Answers t n → IsTurn service stage t n)
+    → ((t : Turn) (n : Stage) → t.text ≡ take count pending → IsFrameTurn Answers t n → IsTurn service stage t n)
     → count ≤ length pending → SpellsFront (take count pending) front → IsShortFront front
     → Gave told (λ asked said. Answers front asked said next) desk out desk' out'
     → IsTurned service stage pending (record { stage = next; count = count }) Same (λ fact. Gave told fact desk out desk' out')
@@ -75,14 +75,14 @@ front_turned told service stage Answers pending count front next Same desk out d
   record {
     asked = gave.asked;
     text = gave.text;
-    fact = turn (record { text = take count pending; asked = gave.asked; said = gave.text }) next (inl (front, spells, short, gave.fact));
+    fact = turn (record { text = take count pending; asked = gave.asked; said = gave.text }) next refl (inl (front, spells, short, gave.fact));
     asks = gave.asks;
     says = gave.says;
   },
 )
 
 pub front_refused : {D : Type 0} (told : D → Call → D → Type 0) (service : Service) (stage : Stage) (Answers : Front → List Call → List ℕ → Stage → Type 0) (pending : List ℕ) (fault : FrameFault) (Same : Type 0) (desk : D) (out out' : List ℕ)
-    → ((t : Turn) (n : Stage) → IsFrameTurn Answers t n → IsTurn service stage t n)
+    → ((t : Turn) (n : Stage) → t.text ≡ take (length pending) pending → IsFrameTurn Answers t n → IsTurn service stage t n)
     → fault ≢ Memory → Gives (Err fault) (framed_front pending) → out' ≡ out ++ error_of_refusal (refusal_of fault)
     → IsTurned service stage pending (record { stage = Closed; count = length pending }) Same (λ fact. Gave told fact desk out desk out')
 front_refused told service stage Answers pending fault Same desk out out' turn other gives says =
@@ -94,7 +94,7 @@ front_refused told service stage Answers pending fault Same desk out out' turn o
       record {
         asked = [];
         text = error_of_refusal (refusal_of fault);
-        fact = turn (record { text = take (length pending) pending; asked = []; said = error_of_refusal (refusal_of fault) }) Closed (inr (fault, rw whole is, (refl, refl, refl)));
+        fact = turn (record { text = take (length pending) pending; asked = []; said = error_of_refusal (refusal_of fault) }) Closed refl (inr (fault, rw whole is, (refl, refl, refl)));
         asks = refl;
         says = says;
       },
@@ -129,7 +129,7 @@ quiet_turned told service stage pending desk out out' (Err e) is keeps = (nothin
 
 -- what the answer of a frame tried, its turn tried
 pub front_tried : {D : Type 0} (told : D → Call → D → Type 0) (service : Service) (stage : Stage) (Answers : Front → List Call → List ℕ → Stage → Type 0) (pending : List ℕ) (count : ℕ) (front : Front) (desk desk' : D)
-    → ((t : Turn) (n : Stage) → IsFrameTurn Answers t n → IsTurn service stage t n)
+    → ((t : Turn) (n : Stage) → t.text ≡ take count pending → IsFrameTurn Answers t n → IsTurn service stage t n)
     → SpellsFront (take count pending) front → IsShortFront front
     → Tried told (λ asked. (next : Stage) × (text : List ℕ) × Answers front asked text next) desk desk' → Tried told (Asks service stage pending) desk desk'
 front_tried told service stage Answers pending count front desk desk' turn spells short tried =
@@ -138,7 +138,7 @@ front_tried told service stage Answers pending count front desk desk' turn spell
       record { text = take count pending; asked = asked; said = part.1 },
       part.0,
       drop count pending,
-      turn (record { text = take count pending; asked = asked; said = part.1 }) part.0 (inl (front, spells, short, part.2)),
+      turn (record { text = take count pending; asked = asked; said = part.1 }) part.0 refl (inl (front, spells, short, part.2)),
       refl,
       sym (take-append-drop count pending),
     )) tried
@@ -151,7 +151,7 @@ closed_turned told service (b ∷ bytes) desk out = inr (omega arith, omega arit
 -- ---- what can't be read
 
 pub refused_takes : {D : Type 0} (told : D → Call → D → Type 0) (service : Service) (stage : Stage) (Answers : Front → List Call → List ℕ → Stage → Type 0) (pending : List ℕ) (fault : FrameFault) (desk : D) (out out' : List ℕ) (r : Result Turned AllocError)
-    → ((t : Turn) (n : Stage) → IsFrameTurn Answers t n → IsTurn service stage t n)
+    → ((t : Turn) (n : Stage) → t.text ≡ take (length pending) pending → IsFrameTurn Answers t n → IsTurn service stage t n)
     → Gives (Err fault) (framed_front pending)
     → OnOk r (fault ≢ Memory) → IfOk r (λ t. t ≡ record { stage = Closed; count = length pending }) → OnOk r (out' ≡ out ++ error_of_refusal (refusal_of fault)) → OnErr r (Extends out out')
     → TakesTurn told service stage pending r desk out desk out'

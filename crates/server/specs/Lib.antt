@@ -8,3 +8,4 @@ pub mod Reading
 pub mod Refusals
 pub mod Said
 pub mod Answers
+pub mod Extended

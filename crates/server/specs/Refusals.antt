@@ -8,7 +8,7 @@ use Rattle.server.specs.declared.desk_fault.DeskFault.{DeskFault}
 use Rattle.server.specs.declared.desk_fault.StartAhead.{StartAhead}
 use Rattle.server.specs.declared.desk_fault.DeskFault.TheVariants as desks
 use Rattle.server.specs.declared.refusal.Refusal.{Refusal}
-use Rattle.server.specs.declared.refusal.Refusal.TheVariants.{Violation, Version, NoReplication, InitialCopy, Command, Question, Asked}
+use Rattle.server.specs.declared.refusal.Refusal.TheVariants.{Violation, Version, NoReplication, InitialCopy, ExtendedQuery, FunctionCall, Command, Question, Asked}
 
 abbrev pub command_code : CmdFault → List ℕ
 command_code commands.Syntax = codes "42601"
@@ -23,7 +23,7 @@ command_text commands.Syntax = codes "syntax error"
 command_text commands.BadName = codes "bad slot name"
 command_text commands.BadPosition = codes "bad position"
 command_text commands.Unsupported = codes "not supported"
-command_text commands.BadOption = codes "bad option"
+command_text commands.BadOption = codes "bad option: proto_version '1', publication_names and messages are served"
 command_text commands.Memory = codes "out of memory"
 
 abbrev pub desk_code : DeskFault → List ℕ
@@ -53,6 +53,8 @@ refusal_code Violation = codes "08P01"
 refusal_code Version = codes "0A000"
 refusal_code NoReplication = codes "0A000"
 refusal_code InitialCopy = codes "0A000"
+refusal_code ExtendedQuery = codes "08P01"
+refusal_code FunctionCall = codes "08P01"
 refusal_code (Command fault) = command_code fault
 refusal_code (Question fault) = command_code fault
 refusal_code (Asked fault) = desk_code fault
@@ -62,6 +64,8 @@ refusal_text Violation = codes "protocol violation"
 refusal_text Version = codes "unsupported protocol version"
 refusal_text NoReplication = codes "only replication=database is served"
 refusal_text InitialCopy = codes "initial copies are not served: use WITH (copy_data = false)"
+refusal_text ExtendedQuery = codes "extended query protocol not supported: only simple queries are served"
+refusal_text FunctionCall = codes "function calls not supported: only simple queries are served"
 refusal_text (Command fault) = command_text fault
 refusal_text (Question fault) = codes "not answered without --answer-postgresql"
 refusal_text (Asked fault) = desk_text fault

@@ -1,6 +1,6 @@
 -- A conversation as a list of turns: each is a text of the client, what was asked of the desk for it, and what was said
 -- to it (PostgreSQL 15, 55.2.1 to 55.2.3, 55.2.6 and 55.4).
-use Rattle.std.specs.Prelude.{◌≡◌, ℕ, ◌⊎◌, List, [], ◌∷◌, ◌++◌, Option, Some, None, Ok, Err, Bool, codes, if◌then◌else◌}
+use Rattle.std.specs.Prelude.{◌≡◌, ℕ, ◌⊎◌, List, [], ◌∷◌, ◌++◌, Option, Some, None, Ok, Err, Bool, true, false, codes, if◌then◌else◌}
 use Rattle.std.specs.List.{flat_map}
 use Rattle.frames.specs.declared.fault.FrameFault.{FrameFault}
 use Rattle.frames.specs.declared.fault.FrameFault.TheVariants as frames
@@ -16,13 +16,16 @@ use Rattle.copyboth.specs.Status.{SpellsStatus, client_fault}
 use Rattle.server.specs.declared.service.Dialect.{Dialect}
 use Rattle.server.specs.declared.service.Service.{Service}
 use Rattle.server.specs.declared.refusal.Refusal.{Refusal}
-use Rattle.server.specs.declared.refusal.Refusal.TheVariants.{Violation, Version}
+use Rattle.server.specs.declared.refusal.Refusal.TheVariants.{Violation, Version, ExtendedQuery, FunctionCall}
 use Rattle.server.specs.declared.stage.Stage.{Stage}
-use Rattle.server.specs.declared.stage.Stage.TheVariants.{Fresh, Idle, Streaming, Stopping, Closed}
+use Rattle.server.specs.declared.stage.Stage.TheVariants.{Fresh, Idle, Skipping, Streaming, Stopping, Closed}
+use Rattle.server.specs.declared.extended.Extended.{Extended}
+use Rattle.server.specs.declared.extended.Extended.TheVariants as extended
 use Rattle.server.specs.Calls.{Call, Flushed}
 use Rattle.server.specs.Conversation.{RepliesIn}
+use Rattle.server.specs.Extended.{SpellsExtended, framed_extended, is_extended}
 use Rattle.server.specs.Opening.{opened_database}
-use Rattle.server.specs.Said.{error_of_refusal, answer_to_startup, end_of_stream}
+use Rattle.server.specs.Said.{error_of_refusal, error_and_ready, ready, answer_to_startup, end_of_stream}
 
 pub record Turn : Type 0 where
   pub text : List ℕ
@@ -66,6 +69,29 @@ Hears dialect database (CopyData bytes) asked said next = Refuses Violation aske
 Hears dialect database CopyDone asked said next = Refuses Violation asked said next
 Hears dialect database (CopyFail fail) asked said next = Refuses Violation asked said next
 
+-- A step of an extended query is refused, and all up to its Sync is passed over. A function call is refused as a query is. A Sync
+-- is answered by what says that the session goes on, and to a Flush there is nothing to say.
+abbrev pub HearsExtended : List ℕ → Extended → List Call → List ℕ → Stage → Type 0
+HearsExtended database extended.Step = Says (error_of_refusal ExtendedQuery) (Skipping database)
+HearsExtended database extended.Flush = Says [] (Idle database)
+HearsExtended database extended.Sync = Says ready (Idle database)
+HearsExtended database extended.Call = Says (error_and_ready FunctionCall) (Idle database)
+
+-- up to that Sync
+abbrev pub SkipsExtended : List ℕ → Extended → List Call → List ℕ → Stage → Type 0
+SkipsExtended database extended.Sync = Says ready (Idle database)
+SkipsExtended database extended.Step = Says [] (Skipping database)
+SkipsExtended database extended.Flush = Says [] (Skipping database)
+SkipsExtended database extended.Call = Says [] (Skipping database)
+
+-- but for Terminate, whatever it is
+abbrev pub Skips : List ℕ → Front → List Call → List ℕ → Stage → Type 0
+Skips database Terminate = Says [] Closed
+Skips database (Query query) = Says [] (Skipping database)
+Skips database (CopyData bytes) = Says [] (Skipping database)
+Skips database CopyDone = Says [] (Skipping database)
+Skips database (CopyFail fail) = Says [] (Skipping database)
+
 -- ---- in a stream
 
 -- The desk is told of a status: how far the client has flushed, and whether it asks for an answer. This is one call.
@@ -97,13 +123,26 @@ IsFrameTurn Answers t next =
     ((front : Front) × SpellsFront t.text front × IsShortFront front × Answers front t.asked t.said next)
     ⊎ ((fault : FrameFault) × (framed_front t.text ≡ Err fault) × Refuses (refusal_of fault) t.asked t.said next)
 
+-- The same of the frames of extended queries.
+abbrev pub IsExtendedTurn : (Extended → List Call → List ℕ → Stage → Type 0) → Turn → Stage → Type 0
+IsExtendedTurn Answers t next =
+    ((e : Extended) × SpellsExtended t.text e × Answers e t.asked t.said next)
+    ⊎ ((fault : FrameFault) × (framed_extended t.text ≡ Err fault) × Refuses (refusal_of fault) t.asked t.said next)
+
+-- what each of both kinds of frames is answered in a session
+abbrev pub IsSessionTurn : (Extended → List Call → List ℕ → Stage → Type 0) → (Front → List Call → List ℕ → Stage → Type 0) → Turn → Stage → Type 0
+IsSessionTurn Extends Answers t next =
+    ((is_extended t.text ≡ true) × IsExtendedTurn Extends t next)
+    ⊎ ((is_extended t.text ≡ false) × IsFrameTurn Answers t next)
+
 -- A turn from one stage to the next. Its text is one startup, or one frame, or it begins with what is neither: then the
 -- connection closes, and all that follows is passed over.
 abbrev pub IsTurn : Service → Stage → Turn → Stage → Type 0
 IsTurn service Fresh t next =
     ((startup : Startup) × SpellsStartup t.text startup × Opens service startup t.asked t.said next)
     ⊎ ((fault : FrameFault) × (framed_startup t.text ≡ Err fault) × Refuses (refusal_of fault) t.asked t.said next)
-IsTurn service (Idle database) t next = IsFrameTurn (Hears service.dialect database) t next
+IsTurn service (Idle database) t next = IsSessionTurn (HearsExtended database) (Hears service.dialect database) t next
+IsTurn service (Skipping database) t next = IsSessionTurn (SkipsExtended database) (Skips database) t next
 IsTurn service (Streaming database) t next = IsFrameTurn (Streams database) t next
 IsTurn service (Stopping database) t next = (t ≡ end_turn) × (next ≡ Idle database)
 IsTurn service Closed t next = Says [] Closed t.asked t.said next
@@ -117,7 +156,8 @@ AreTurns service old (t ∷ ts) new = (mid : Stage) × IsTurn service old t mid 
 -- closed, nothing is left.
 abbrev pub Waits : Stage → List ℕ → Type 0
 Waits Fresh rest = framed_startup rest ≡ Ok None
-Waits (Idle database) rest = framed_front rest ≡ Ok None
+Waits (Idle database) rest = (framed_front rest ≡ Ok None) ⊎ (framed_extended rest ≡ Ok None)
+Waits (Skipping database) rest = (framed_front rest ≡ Ok None) ⊎ (framed_extended rest ≡ Ok None)
 Waits (Streaming database) rest = framed_front rest ≡ Ok None
 Waits (Stopping database) rest = Unit {0}
 Waits Closed rest = rest ≡ []

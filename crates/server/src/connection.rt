@@ -77,7 +77,7 @@ impl Connection {
     {
         match &self.stage {
             Stage::Fresh => Phase::Startup,
-            Stage::Idle(_) => Phase::Idle,
+            Stage::Idle(_) | Stage::Skipping(_) => Phase::Idle,
             Stage::Streaming(_) => Phase::Streaming,
             Stage::Stopping(_) => Phase::Stopping,
             Stage::Closed => Phase::Closed,
@@ -90,7 +90,11 @@ impl Connection {
     {
         match &self.stage {
             Stage::Idle(_) => has_query(self.pending.as_slice()),
-            Stage::Fresh | Stage::Streaming(_) | Stage::Stopping(_) | Stage::Closed => false,
+            Stage::Fresh
+            | Stage::Skipping(_)
+            | Stage::Streaming(_)
+            | Stage::Stopping(_)
+            | Stage::Closed => false,
         }
     }
 

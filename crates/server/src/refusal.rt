@@ -18,6 +18,10 @@ pub enum Refusal {
     NoReplication,
     /// The beginning of the initial copy of a table.
     InitialCopy,
+    /// A step of an extended query.
+    ExtendedQuery,
+    /// A FunctionCall.
+    FunctionCall,
     /// A text that is no command.
     Command(CmdFault),
     /// One that is a question, where questions are not answered.
@@ -41,11 +45,22 @@ impl Refusal {
                 "0A000",
                 "initial copies are not served: use WITH (copy_data = false)",
             ),
+            Refusal::ExtendedQuery => (
+                "08P01",
+                "extended query protocol not supported: only simple queries are served",
+            ),
+            Refusal::FunctionCall => (
+                "08P01",
+                "function calls not supported: only simple queries are served",
+            ),
             Refusal::Command(CmdFault::Syntax) => ("42601", "syntax error"),
             Refusal::Command(CmdFault::BadName) => ("42602", "bad slot name"),
             Refusal::Command(CmdFault::BadPosition) => ("42601", "bad position"),
             Refusal::Command(CmdFault::Unsupported) => ("0A000", "not supported"),
-            Refusal::Command(CmdFault::BadOption) => ("22023", "bad option"),
+            Refusal::Command(CmdFault::BadOption) => (
+                "22023",
+                "bad option: proto_version '1', publication_names and messages are served",
+            ),
             Refusal::Command(CmdFault::Memory) => ("53200", "out of memory"),
             Refusal::Question(fault) => {
                 (code_of(fault), "not answered without --answer-postgresql")

@@ -1,16 +1,20 @@
 //! The frames of a session, in which queries are answered.
 
+ghost use Rattle.std.specs.Prelude.{◌≡◌, true, IfOk, OnErr};
 ghost use Rattle.frames.specs.declared.front.Front.TheVariants.{Query};
+ghost use Rattle.pqformat.specs.Putting.{Extends};
 ghost use Rattle.server.specs.Conversation.{Answered};
-ghost use Rattle.server.specs.Segment.{TakesTurn};
-ghost use Rattle.server.specs.Turns.{Hears};
+ghost use Rattle.server.specs.Extended.{is_extended};
+ghost use Rattle.server.specs.Segment.{IsTurned, Said, TakesTurn};
+ghost use Rattle.server.specs.Turns.{Hears, HearsExtended};
 ghost use Rattle.server.specs.declared.stage.Stage.TheVariants.{Idle};
 
 use crate::database::Database;
 use crate::desk::Desk;
+use crate::extended::{Extended, is_extended, read_extended};
 use crate::refusal::Refusal;
 use crate::replying::reply_in;
-use crate::say::say_refused;
+use crate::say::{say_ready, say_refused, say_refused_ready};
 use crate::service::{Dialect, Service};
 use crate::stage::{Stage, Turned, refuse};
 use bytes::BytesMut;
@@ -67,6 +71,64 @@ fn answer_front<D: Desk>(
     }
 }
 
+/// Answers a frame of an extended query, of which the first is refused, and a function call.
+#[tactic(auto, using(pqformat::proofs::Putting::in_place))]
+fn answer_extended(
+    alloc: Global,
+    database: Database,
+    extended: Extended,
+    out: &mut BytesMut,
+) -> Result<Stage, AllocError>
+    ensures says { IfOk result
+        (λ next. Said (λ asked said. HearsExtended database extended asked said next) out.old.items
+        out.new.items) }
+    ensures kept { OnErr result (Extends out.old.items out.new.items) }
+{
+    match extended {
+        Extended::Step => {
+            say_refused(alloc, out, Refusal::ExtendedQuery)?;
+            Ok(Stage::Skipping(database))
+        }
+        Extended::Flush => Ok(Stage::Idle(database)),
+        Extended::Sync => {
+            say_ready(out)?;
+            Ok(Stage::Idle(database))
+        }
+        Extended::Call => {
+            say_refused_ready(alloc, out, Refusal::FunctionCall)?;
+            Ok(Stage::Idle(database))
+        }
+    }
+}
+
+/// The turn of a session for the frames of extended queries.
+#[tactic(auto, using(pqformat::proofs::Putting::in_place))]
+fn turn_extended(
+    alloc: Global,
+    database: Database,
+    pending: &[u8],
+    out: &mut BytesMut,
+) -> Result<Turned, AllocError>
+    requires { is_extended pending.now ≡ true }
+    ensures turned { (service : Service) →
+        IfOk result
+        (λ t. IsTurned service (Idle database) pending.now t (out.new.items ≡ out.old.items)
+        (λ fact. Said fact out.old.items out.new.items)) }
+    ensures kept { OnErr result (Extends out.old.items out.new.items) }
+{
+    match read_extended(pending) {
+        Ok(None) => Ok(Turned {
+            stage: Stage::Idle(database),
+            count: 0,
+        }),
+        Ok(Some((extended, count))) => {
+            let stage = answer_extended(alloc, database, extended, out)?;
+            Ok(Turned { stage, count })
+        }
+        Err(fault) => refuse(alloc, fault, pending, out),
+    }
+}
+
 /// The turn of a session.
 pub(crate) fn turn_session<D: Desk>(
     alloc: Global,
@@ -79,6 +141,9 @@ pub(crate) fn turn_session<D: Desk>(
     ensures { TakesTurn D.told service (Idle database) pending.now result desk.old out.old.items
         desk.new out.new.items }
 {
+    if is_extended(pending) {
+        return turn_extended(alloc, database, pending, out);
+    }
     match read_front(alloc, pending) {
         Ok(None) => Ok(Turned {
             stage: Stage::Idle(database),

@@ -19,6 +19,8 @@ pub enum Stage {
     Fresh,
     /// A query is.
     Idle(Database),
+    /// An extended query was refused, and its Sync is waited for.
+    Skipping(Database),
     /// A stream has begun.
     Streaming(Database),
     /// The client has asked for its end, and not all of it has been said.

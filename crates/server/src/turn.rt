@@ -15,6 +15,7 @@ use crate::desk::Desk;
 use crate::opening::open;
 use crate::service::Service;
 use crate::session::turn_session;
+use crate::skipping::turn_skipping;
 use crate::stage::{Stage, Turned, refuse};
 use crate::streaming::turn_stream;
 use bytes::BytesMut;
@@ -117,6 +118,7 @@ pub(crate) fn turn<D: Desk>(
     match stage {
         Stage::Fresh => turn_startup(alloc, service, pending, out),
         Stage::Idle(database) => turn_session(alloc, service, database, pending, desk, out),
+        Stage::Skipping(database) => turn_skipping(alloc, database, pending, out),
         Stage::Streaming(database) => turn_stream(alloc, database, pending, desk, out),
         Stage::Stopping(database) => Ok(Turned {
             stage: Stage::Stopping(database),

@@ -1,4 +1,3 @@
-use Rattle.std.proofs.Common.{refl}
 use Rattle.server.specs.Conversation.{Replies, RepliesIn, why_of}
 use Rattle.server.specs.declared.service.Dialect.TheVariants.{Commands}
 use Rattle.server.proofs.Steps.{answered_as}

@@ -9,12 +9,12 @@ pub returns-in_ok-stage-in-Ok-Some : goal.returns-in_ok-stage-in-Ok-Some
 returns-in_ok-stage-in-Ok-Some g c service =
     let found = rw c.in-Ok-Some.field-0-is at c.in-Ok-Some.ensures.found in
     front_turned g.D.Desk.told service (Streaming c.args.database) (Streams c.args.database) c.args.pending.now c.in-Ok-Some.count c.in-Ok-Some.front c.in_ok-stage-in-Ok-Some.stage ((c.answer_in_stream-answered.new.desk ≡ c.args.desk.now) × (c.answer_in_stream-answered.new.out.items ≡ c.args.out.now.items)) c.args.desk.now c.args.out.now.items c.answer_in_stream-answered.new.desk c.answer_in_stream-answered.new.out.items
-    (λ t n is. is) found.0 found.1 found.2 c.in_ok-stage-in-Ok-Some.ensures
+    (λ t n text is. is) found.0 found.1 found.2 c.in_ok-stage-in-Ok-Some.ensures
 
 pub returns-in-Err : goal.returns-in-Err
 returns-in-Err g c service =
     refused_takes g.D.Desk.told service (Streaming c.args.database) (Streams c.args.database) c.args.pending.now c.in-Err.fault c.args.desk.now c.args.out.now.items c.refuse.new.out.items c.refuse.result
-    (λ t n is. is) c.in-Err.ensures.exact c.refuse.ensures.readable c.refuse.ensures.closes c.refuse.ensures.says c.refuse.ensures.kept
+    (λ t n text is. is) c.in-Err.ensures.exact c.refuse.ensures.readable c.refuse.ensures.closes c.refuse.ensures.says c.refuse.ensures.kept
 
 pub returns-in_err-stage-in-Ok-Some : goal.returns-in_err-stage-in-Ok-Some
 returns-in_err-stage-in-Ok-Some g c service =
@@ -22,6 +22,6 @@ returns-in_err-stage-in-Ok-Some g c service =
     let found = rw c.in-Ok-Some.field-0-is at c.in-Ok-Some.ensures.found in
     rw p.1 (
       front_tried g.D.Desk.told service (Streaming c.args.database) (Streams c.args.database) c.args.pending.now c.in-Ok-Some.count c.in-Ok-Some.front c.args.desk.now c.answer_in_stream-answered.new.desk
-          (λ t n is. is) found.1 found.2 c.in_err-stage-in-Ok-Some.ensures.0,
+          (λ t n text is. is) found.1 found.2 c.in_err-stage-in-Ok-Some.ensures.0,
       c.in_err-stage-in-Ok-Some.ensures.1,
     )
