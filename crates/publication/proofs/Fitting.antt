@@ -23,19 +23,20 @@ use Rattle.tables.specs.declared.change_body.TheConstants.{MAX_TRUNCATED}
 use Rattle.tables.specs.Tables.{repeats}
 use Rattle.tables.specs.Kinds.{IsValue}
 use Rattle.tables.specs.Tables.{table_of}
-use Rattle.pgoutput.specs.Items.{FitsRelationOf}
+use Rattle.pgoutput.specs.Items.{FitsRelationOf, IsShortMessage}
+use Rattle.pgoutput.specs.Logical.{FitsLogical}
 use Rattle.publication_config.specs.declared.operations.Operation.{Operation}
 use Rattle.publication_config.specs.declared.operations.Operation.TheVariants.{Insert, Update, Delete, Truncate}
 use Rattle.publication_config.specs.declared.publication.Publication.{Publication}
 use Rattle.publication_config.specs.Published.{PublicationSet, has, publishes}
-use Rattle.row_messages.specs.Relations.{relation_column, table_as_published, FitsTable}
+use Rattle.row_messages.specs.Relations.{relation_column, relation_of, table_as_published, FitsTable}
 use Rattle.publication.specs.Selection.{has_table, list_by, relation, selected_table, whole_table, FitTables}
 use Rattle.row_messages.specs.Tuples.{old_by, old_row_of_update, tuple_behind, tuple_of}
 use Rattle.row_messages.specs.Messages.{delete_message, insert_message, stands_in, update_message}
 use Rattle.publication.specs.Projection.{is_published, may_be_emptied, message, message_by, message_of_update, only_if, passes, row_as_published, stands, truncate_message, AreValues, MessageFits}
 use Rattle.row_messages.proofs.Choosing.{all_chosen, narrowed_fits, narrowed_stands}
 use Rattle.row_messages.proofs.Rows.{both_true, OldFits, TupleFits, old_fits, replaced_fits, sent_fits, tuple_behind_fits, tuple_fits}
-use Rattle.publication.proofs.Relations.{found_table, relation_tells, some_is}
+use Rattle.publication.proofs.Relations.{found_table, relation_answer_fits, relation_tells, some_is}
 
 -- ---- a message
 
@@ -260,3 +261,13 @@ message_fits s (changes.Truncate oids) m all in_range e =
     let others = both_true (not (eqb (length oids) 0)) _ some.1 in
     let few = both_true (not (repeats oids)) (leb (length oids) MAX_TRUNCATED) others.1 in
     truncate_fits s oids (filter (is_published s Truncate) oids) m (kept_fit s oids all some.0) (leb-true _ _ few.1) both.is
+
+-- the Relation of a table of the selection
+pub relation_of_fits : (s : PublicationSet) (oid : ℕ) (m : Logical) → FitTables s → option_map (λ t. logical.Relation (relation_of t)) (selected_table s oid) ≡ Some m → FitsLogical m × IsShortMessage m
+relation_of_fits s oid m all e = by_table (selected_table s oid) refl e
+  where
+    by_table : (o : Option Table) → selected_table s oid ≡ o → option_map (λ t. logical.Relation (relation_of t)) o ≡ Some m → FitsLogical m × IsShortMessage m
+    by_table None found e = absurd cc
+    by_table (Some t) found e =
+        let P : Logical → Type 0 = λ n. FitsLogical n × IsShortMessage n in
+        subst P (some_is (logical.Relation (relation_of t)) m e) (relation_answer_fits t (shown_by s oid t all found).found.fits)

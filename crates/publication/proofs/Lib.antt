@@ -4,6 +4,7 @@ pub mod Fitting
 pub mod Judgements
 pub mod LoggedMessages
 pub mod Oids
+pub mod Projecting
 pub mod Relations
 pub mod Repeats
 pub mod Room

@@ -29,12 +29,12 @@ use Rattle.publication.proofs.Room.{has_room}
 use Rattle.row_messages.proofs.Rows.{both_true}
 
 -- what of a message is known that may stand in the log
-record Short (m : Message) : Type 0 where
-  prefix : length m.prefix ≤ 63
-  plain : has_no_zero m.prefix ≡ true
-  content : length m.content ≤ 8000
+pub record Short (m : Message) : Type 0 where
+  pub prefix : length m.prefix ≤ 63
+  pub plain : has_no_zero m.prefix ≡ true
+  pub content : length m.content ≤ 8000
 
-short : (m : Message) → fits_log m ≡ true → Short m
+pub short : (m : Message) → fits_log m ≡ true → Short m
 short m is =
     let both = both_true (is_prefix m.prefix) (leb (length m.content) MAX_CONTENT_LENGTH) is in
     let name = both_true (leb (length m.prefix) MAX_PREFIX_LENGTH) (has_no_zero m.prefix) both.0 in

@@ -1,8 +1,7 @@
 //! Messages of the log, sent to streams that ask for them.
 #![tactic(auto, using(row_messages::proofs::Written::sizes))]
 
-ghost use Rattle.std.specs.Prelude.{◌≡◌, ◌+◌, ◌≤◌, [], IfOk, IfSome, Ok, OnSome, Some, length, true};
-ghost use Rattle.std.specs.Str.{is_utf8};
+ghost use Rattle.std.specs.Prelude.{◌≡◌, ◌+◌, ◌≤◌, [], IfSome, Ok, Some, length};
 ghost use Rattle.pgoutput.specs.Logical.{spell_logical};
 ghost use Rattle.pgoutput.specs.Message.{message_flags};
 ghost use Rattle.pgoutput.specs.declared.logical.Logical.{Logical as Meant};
@@ -10,17 +9,16 @@ ghost use Rattle.tables.specs.Reading.{SpellsBody, change_tagged, message_at};
 ghost use Rattle.tables.specs.Refs.{message_of};
 ghost use Rattle.tables.specs.declared.change.Change.{Change as Changed};
 ghost use Rattle.tables.specs.declared.message.Message.{Message as Held};
-ghost use Rattle.publication.specs.Logged.{IsNoteAt, change_message, fits_log, note_message, logged_message, told_of};
+ghost use Rattle.publication.specs.Logged.{IsNoteAt, fits_log, note_message, logged_message, told_of};
 ghost use Rattle.pqformat.specs.Writing.{FitsRoom, Writes};
 ghost use Rattle.row_messages.specs.Spelling.{HasRoomFor, IsPut, IsWritten};
 ghost use Rattle.publication.specs.Read.{IsReadWhole};
 
 use crate::selection::Selection;
-use pgoutput::{Logical, MESSAGE, Message as Told, message_flags};
-use pqformat::{Items, write_byte, write_bytes, write_int32, write_int64};
+use pgoutput::{MESSAGE, message_flags};
+use pqformat::{write_byte, write_bytes, write_int32, write_int64};
 use row_messages::MAX_MESSAGE_LENGTH;
-use std::alloc::AllocError;
-use tables::{MAX_CONTENT_LENGTH, MESSAGE_TAG, Message, MessageRef, is_prefix, lend_message};
+use tables::{MAX_CONTENT_LENGTH, MESSAGE_TAG, MessageRef, is_prefix, lend_message};
 
 impl Selection {
     /// Writes the message of the note whose body these bytes are, and whose record starts at the position, to the front of `out`, and
@@ -80,32 +78,6 @@ impl Selection {
             return None;
         }
         Some(put_message(out, is_transactional, position, message))
-    }
-
-    /// The message itself, if messages were asked for.
-    pub(crate) fn logged(
-        &self,
-        position: u64,
-        message: &Message,
-    ) -> Result<Option<Logical>, AllocError>
-        ensures value { IfOk result (λ o. o ≡ logged_message true self.now position message.now) }
-        ensures in_range { IfOk result (λ o. OnSome o (is_utf8 message.now.prefix ≡ true)) }
-    {
-        let lent = MessageRef {
-            prefix: message.prefix.as_str(),
-            content: message.content.as_slice(),
-        };
-        if !self.messages || !fits_log(lent) {
-            return Ok(None);
-        }
-        let prefix = message.prefix.copy(self.alloc)?;
-        let content = Vec::from_slice(self.alloc, lent.content)?;
-        Ok(Some(Logical::Message(Told {
-            is_transactional: true,
-            position,
-            prefix,
-            content: Items::new(content),
-        })))
     }
 }
 

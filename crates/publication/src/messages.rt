@@ -1,47 +1,17 @@
-//! The message of an update, by which of its two rows pass, and that of tables that were emptied.
+//! The message of an update, by which of its two rows pass.
 
-ghost use Rattle.std.specs.Prelude.{◌≡◌, ◌<◌, ◌^◌, IfOk, Some, length};
+ghost use Rattle.std.specs.Prelude.{◌≡◌, ◌<◌, ◌^◌, Some, length};
 ghost use Rattle.pgoutput.specs.Logical.{spell_logical};
 ghost use Rattle.pgoutput.specs.declared.logical.Logical.{Logical as Told};
 ghost use Rattle.pqformat.specs.Writing.{FitsRoom};
 ghost use Rattle.row_messages.specs.Relations.{listed_items, table_as_published};
 ghost use Rattle.row_messages.specs.Spelling.{IsWritten};
-ghost use Rattle.publication.specs.Projection.{message_of_update, truncate_message};
+ghost use Rattle.publication.specs.Projection.{message_of_update};
 
-use pgoutput::{Logical, Truncate, TruncateOptions};
-use pqformat::Items;
-use row_messages::{
-    deletion, insertion, put_deletion, put_insertion, put_replacement, replacement,
-};
-use std::alloc::{AllocError, Global};
-use tables::{Row, RowRef, Table};
+use row_messages::{put_deletion, put_insertion, put_replacement};
+use tables::{RowRef, Table};
 
 /// By whether the old row passed and the new one passes.
-pub(crate) fn update(
-    alloc: Global,
-    table: &Table,
-    listed: &[bool],
-    old_passes: bool,
-    new_passes: bool,
-    old: &Row,
-    new: &Row,
-) -> Result<Option<Logical>, AllocError>
-    requires columns { length table.now.columns ≡ length old.now }
-    requires rows { length old.now ≡ length new.now }
-    ensures { IfOk result
-        (λ o. o
-        ≡ message_of_update old_passes new_passes (Some (table_as_published listed.now table.now))
-        (listed_items listed.now old.now) (listed_items listed.now new.now)) }
-{
-    match (old_passes, new_passes) {
-        (true, true) => Ok(Some(replacement(alloc, table, listed, old, new)?)),
-        (false, true) => Ok(Some(insertion(alloc, table, listed, new)?)),
-        (true, false) => deletion(alloc, table, listed, old),
-        (false, false) => Ok(None),
-    }
-}
-
-/// The same, written where it is sent from.
 pub(crate) fn put_update(
     out: &mut [u8],
     table: &Table,
@@ -69,17 +39,4 @@ pub(crate) fn put_update(
         (true, false) => put_deletion(out, table, listed, old),
         (false, false) => None,
     }
-}
-
-pub(crate) fn truncation(oids: Items<u32>) -> Option<Logical>
-    ensures { result ≡ truncate_message oids }
-{
-    if oids.is_empty() {
-        return None;
-    }
-    let options = TruncateOptions {
-        cascade: false,
-        restart_identity: false,
-    };
-    Some(Logical::Truncate(Truncate { options, oids }))
 }

@@ -1,38 +1,26 @@
 //! What a sender was asked to publish.
 
-ghost use Rattle.std.specs.Prelude.{◌≡◌, ◌++◌, ◌==◌, [], IfOk, IfSome, OnSome, option_map, true, false, filter, drop, is_some, length};
+ghost use Rattle.std.specs.Prelude.{◌≡◌, ◌++◌, ◌==◌, [], IfOk, IfSome, option_map, true, false, filter, drop, is_some, length};
 ghost use Rattle.std.specs.Option.{option_copied};
 ghost use Rattle.std.specs.List.{AllByRecursion, list_all, list_any};
-ghost use Rattle.pgoutput.specs.declared.logical.Logical.TheVariants as logical;
-ghost use Rattle.pgoutput.specs.Logical.{FitsLogical};
-ghost use Rattle.tables.specs.Kinds.{IsValue};
 ghost use Rattle.tables.specs.Tables.{table_of, oids_of, repeats};
-ghost use Rattle.tables.specs.declared.change.Change.{Change};
-ghost use Rattle.pgoutput.specs.Items.{IsShortMessage};
 ghost use Rattle.publication_config.specs.Published.{has};
-ghost use Rattle.row_messages.specs.Relations.{relation_of, FitsTable};
-ghost use Rattle.publication.specs.Selection.{has_table, list_by, selected_oids, selected_table, whole_table};
-ghost use Rattle.publication_config.specs.declared.operations.Operation.{Operation};
-ghost use Rattle.publication.specs.Logged.{change_message};
-ghost use Rattle.row_messages.specs.Messages.{stands_in};
-ghost use Rattle.publication.specs.Projection.{is_published, may_be_emptied, message, passes, projection_of, AreValues, FitsProjected, MessageFits};
+ghost use Rattle.row_messages.specs.Relations.{FitsTable};
+ghost use Rattle.publication.specs.Selection.{has_table, list_by, selected_oids, whole_table};
+ghost use Rattle.publication.specs.Projection.{is_published, may_be_emptied, passes};
 
-use crate::messages::{truncation, update};
 use crate::passing::passes;
-use crate::projection::Projected;
-use pgoutput::Logical;
 use pqformat::Items;
 use publication_config::{Operation, Publication};
-use row_messages::{deletion, insertion, relation_message};
 use std::alloc::{AllocError, Global};
 use std::marker::Model;
-use tables::{Change, MAX_TRUNCATED, Row, RowRef, Table, repeats};
+use tables::{MAX_TRUNCATED, RowRef, Table, repeats};
 
 /// The publications that a sender was asked for.
 ///
-/// `Publications::select` makes it. For each change of a commit `project` answers its message, or `Projected::Nothing` where it
-/// isn't published; `relation` answers the Relation that goes before the first message of a table. Neither changes anything,
-/// and their only error is want of memory.
+/// `Publications::select` makes it. For each change of a commit `put` writes its message, if it has one, and `put_relation` the Relation
+/// that goes before the first message of a table. `project` and `relation` answer the same as values, and their only error is want of
+/// memory. None changes anything.
 #[derive(Drop)]
 pub struct Selection {
     pub(crate) alloc: Global,
@@ -137,118 +125,6 @@ impl Selection {
         self.oids.as_slice()
     }
 
-    /// The message of a change whose record starts at the position, if it has one.
-    pub fn project(&self, position: u64, change: &Change) -> Result<Projected, AllocError>
-        ensures value { IfOk result
-            (λ p. p ≡ projection_of (change_message self.now position change.now)) }
-        ensures fits { IfOk result (FitsProjected self.now) }
-    {
-        // All tables fit: here the prover learns it.
-        let _ = &self.tables;
-        match self.message(position, change)? {
-            None => Ok(Projected::Nothing),
-            Some(message) => Ok(Projected::Message(message)),
-        }
-    }
-
-    fn message(&self, position: u64, change: &Change) -> Result<Option<Logical>, AllocError>
-        ensures value { IfOk result (λ o. o ≡ change_message self.now position change.now) }
-        ensures in_range { IfOk result (λ o. OnSome o (AreValues change.now)) }
-    {
-        match change {
-            Change::Insert(oid, row) => self.inserted(*oid, row),
-            Change::Update(oid, old, new) => self.updated(*oid, old, new),
-            Change::Delete(oid, old) => self.deleted(*oid, old),
-            Change::Truncate(oids) => self.truncated(oids.as_slice()),
-            Change::Message(message) => self.logged(position, message),
-        }
-    }
-
-    fn inserted(&self, oid: u32, row: &Row) -> Result<Option<Logical>, AllocError>
-        ensures value { IfOk result (λ o. o ≡ message self.now (Change.Insert oid row.now)) }
-        ensures in_range { IfOk result (λ o. OnSome o (AllByRecursion IsValue row.now)) }
-    {
-        let Some(table) = self.table(oid) else {
-            return Ok(None);
-        };
-        if !stands(table, row) || !self.passes(Operation::Insert, oid, &RowRef::of(row)) {
-            return Ok(None);
-        }
-        let listed = self.listed(oid);
-        Ok(Some(insertion(self.alloc, table, listed, row)?))
-    }
-
-    fn updated(&self, oid: u32, old: &Row, new: &Row) -> Result<Option<Logical>, AllocError>
-        ensures value { IfOk result
-            (λ o. o ≡ message self.now (Change.Update oid old.now new.now)) }
-        ensures in_range { IfOk result
-            (λ o. OnSome o (AllByRecursion IsValue old.now × AllByRecursion IsValue new.now)) }
-    {
-        let Some(table) = self.table(oid) else {
-            return Ok(None);
-        };
-        if !stands(table, old) || !stands(table, new) {
-            return Ok(None);
-        }
-        let old_passes = self.passes(Operation::Update, oid, &RowRef::of(old));
-        let new_passes = self.passes(Operation::Update, oid, &RowRef::of(new));
-        let listed = self.listed(oid);
-        update(self.alloc, table, listed, old_passes, new_passes, old, new)
-    }
-
-    fn deleted(&self, oid: u32, old: &Row) -> Result<Option<Logical>, AllocError>
-        ensures value { IfOk result (λ o. o ≡ message self.now (Change.Delete oid old.now)) }
-        ensures in_range { IfOk result (λ o. OnSome o (AllByRecursion IsValue old.now)) }
-    {
-        let Some(table) = self.table(oid) else {
-            return Ok(None);
-        };
-        if !stands(table, old) || !self.passes(Operation::Delete, oid, &RowRef::of(old)) {
-            return Ok(None);
-        }
-        let listed = self.listed(oid);
-        deletion(self.alloc, table, listed, old)
-    }
-
-    fn truncated(&self, oids: &[u32]) -> Result<Option<Logical>, AllocError>
-        ensures { IfOk result (λ o. o ≡ message self.now (Change.Truncate oids.now)) }
-    {
-        let published = self.published_among(oids)?;
-        if !may_be_emptied(self.tables.as_slice(), oids) {
-            return Ok(None);
-        }
-        Ok(truncation(published))
-    }
-
-    /// The tables among these of which truncates are published, in this order.
-    fn published_among(&self, oids: &[u32]) -> Result<Items<u32>, AllocError>
-        ensures { IfOk result
-            (λ kept. kept ≡ filter (is_published self.now Operation.Truncate) oids.now) }
-    {
-        let mut kept = Vec::new(self.alloc);
-        for oid in oids {
-            if self.publishes(Operation::Truncate, *oid) {
-                kept.push(*oid)?;
-            }
-        }
-        Ok(Items::new(kept))
-    }
-
-    /// The Relation of a table; None for one outside the selection.
-    pub fn relation(&self, oid: u32) -> Result<Option<Logical>, AllocError>
-        ensures value { IfOk result
-            (λ o. o
-            ≡ option_map (λ table. logical.Relation (relation_of table))
-            (selected_table self.now oid)) }
-        ensures fits { IfOk result (λ o. IfSome o (λ m. FitsLogical m × IsShortMessage m)) }
-    {
-        let Some(table) = self.table(oid) else {
-            return Ok(None);
-        };
-        let relation = relation_message(self.alloc, table, self.listed(oid))?;
-        Ok(Some(Logical::Relation(relation)))
-    }
-
     /// The table of this OID, with all its columns, if the selection has it.
     pub(crate) fn table(&self, oid: u32) -> Option<&Table>
         ensures value { option_copied result ≡ whole_table self.now oid }
@@ -334,16 +210,6 @@ fn found(tables: &[Table], oid: u32) -> Option<&Table>
     ensures { option_copied result ≡ table_of oid tables.now }
 {
     tables.iter().find(|table| table.oid == oid)
-}
-
-/// Whether the row may stand in the table.
-#[tactic(auto, using(row_messages::proofs::Rows::whole_row))]
-fn stands(table: &Table, row: &Row) -> bool
-    ensures value { result ≡ stands_in table.now row.now }
-    ensures in_range { result ≡ true → AllByRecursion IsValue row.now }
-    ensures whole { result ≡ true → length table.now.columns ≡ length row.now }
-{
-    table.takes(row) && row.coded_len().is_some()
 }
 
 /// Whether a truncate may name these tables.

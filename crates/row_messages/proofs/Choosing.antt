@@ -1,9 +1,9 @@
 -- What a column list leaves of a table and of its rows.
-use Rattle.std.proofs.Common.{◌≡◌, ℕ, zero, suc, ◌+◌, ◌<◌, ◌≤◌, Bool, true, false, cond, eqb, leb, List, [], ◌∷◌, ◌++◌, length, drop, get_or, map, refl, sym, ap, subst, ◌∙◌, append_assoc, append-nil, arith}
-use Rattle.std.specs.Prelude.{◌&&◌, ◌||◌, not, if◌then◌else◌}
-use Rattle.std.specs.List.{flat_map, list_all, list_any, zip, AllByRecursion}
+use Rattle.std.proofs.Common.{◌≡◌, ℕ, zero, suc, ◌+◌, ◌<◌, ◌≤◌, Bool, true, false, cond, eqb, leb, List, [], ◌∷◌, length, drop, get_or, refl, sym, ap, subst, ◌∙◌, arith}
+use Rattle.std.specs.Prelude.{◌&&◌, if◌then◌else◌}
+use Rattle.std.specs.List.{flat_map, list_all, zip, AllByRecursion}
 use Rattle.std.proofs.lemmas.Bool.{leb-true, le-leb, eqb-true, eq-eqb}
-use Rattle.std.proofs.lemmas.List.{drop_all, drop_more, length-append}
+use Rattle.std.proofs.lemmas.List.{drop_more, length-append}
 use Rattle.std.proofs.lemmas.List.Concat.{flat_map-cons}
 use Rattle.std.proofs.lemmas.Slice.Zip.{get_or-zip, length-zip}
 use Rattle.pqformat.specs.Fields.{int16}
@@ -20,8 +20,8 @@ use Rattle.publication_config.specs.Published.{is_listed}
 use Rattle.row_messages.specs.Relations.{listed_items, table_as_published, FitsTable}
 use Rattle.pgoutput.specs.declared.tuple.Cell.{Cell}
 use Rattle.pgoutput.specs.declared.tuple.Cell.TheVariants as cells
-use Rattle.row_messages.specs.Kinds.{cell_of, same_value}
-use Rattle.row_messages.specs.Tuples.{cell_behind, changes_key}
+use Rattle.row_messages.specs.Kinds.{cell_of}
+use Rattle.row_messages.specs.Tuples.{cell_behind}
 use Rattle.row_messages.specs.Messages.{stands_in}
 use Rattle.row_messages.proofs.Rows.{both_true}
 
@@ -43,26 +43,9 @@ next_by flags xs i x lt is =
     let P : ℕ → Type 0 = λ k. listed_items (drop i flags) (drop i xs) ≡ cond (is_listed flags i) (x ∷ listed_items (behind k) (drop (i + 1) xs)) (listed_items (behind k) (drop (i + 1) xs)) in
     subst P (one_more i) (ap (listed_items (drop i flags)) (drop_more xs i x lt ∙ ap (λ y. y ∷ drop (i + 1) xs) (sym is)) ∙ front_by flags i x (drop (i + 1) xs))
 
-pub taken : {A B : Type 0} (f : A → B) (kept more whole : List B) (flags : List Bool) (xs : List A) (i : ℕ) (x : A) → i < length xs → x ≡ get_or xs i x → is_listed flags i ≡ true → more ≡ kept ++ f x ∷ []
-    → kept ++ map f (listed_items (drop i flags) (drop i xs)) ≡ whole → more ++ map f (listed_items (drop (i + 1) flags) (drop (i + 1) xs)) ≡ whole
-taken f kept more whole flags xs i x lt is listed grown so_far =
-    let rest = listed_items (drop (i + 1) flags) (drop (i + 1) xs) in
-    ap (λ l. l ++ map f rest) grown ∙ append_assoc kept (f x ∷ []) (map f rest)
-    ∙ ap (λ l. kept ++ map f l) (sym (next_by flags xs i x lt is ∙ ap (λ (b : Bool). cond b (x ∷ rest) rest) listed)) ∙ so_far
-
-pub passed : {A B : Type 0} (f : A → B) (kept more whole : List B) (flags : List Bool) (xs : List A) (i : ℕ) (x : A) → i < length xs → x ≡ get_or xs i x → is_listed flags i ≡ false → more ≡ kept
-    → kept ++ map f (listed_items (drop i flags) (drop i xs)) ≡ whole → more ++ map f (listed_items (drop (i + 1) flags) (drop (i + 1) xs)) ≡ whole
-passed f kept more whole flags xs i x lt is listed same so_far =
-    let rest = listed_items (drop (i + 1) flags) (drop (i + 1) xs) in
-    ap (λ l. l ++ map f rest) same ∙ ap (λ l. kept ++ map f l) (sym (next_by flags xs i x lt is ∙ ap (λ (b : Bool). cond b (x ∷ rest) rest) listed)) ∙ so_far
-
 pub none_left : {A : Type 0} (flags : List Bool) → Path (List A) (listed_items flags []) []
 none_left [] = refl
 none_left (listed ∷ flags) = refl
-
-pub all_taken : {A B : Type 0} (f : A → B) (kept whole : List B) (flags : List Bool) (xs : List A) (i : ℕ) → length xs ≤ i → kept ++ map f (listed_items (drop i flags) (drop i xs)) ≡ whole → kept ≡ whole
-all_taken f kept whole flags xs i past so_far =
-    sym (append-nil kept) ∙ ap (λ l. kept ++ map f l) (sym (ap (listed_items (drop i flags)) (drop_all i xs past) ∙ none_left (drop i flags))) ∙ so_far
 
 -- the cell of a column in a key
 abbrev pub key_cell_of : Column × Value → Cell
@@ -98,24 +81,6 @@ paired xs ys i lt same = subst (λ (n : ℕ). i < n) (sym (length-zip xs ys)) (o
 
 pub unpaired : {A B : Type 0} (xs : List A) (ys : List B) (i : ℕ) → length xs ≤ i → length (zip xs ys) ≤ i
 unpaired xs ys i past = subst (λ (n : ℕ). n ≤ i) (sym (length-zip xs ys)) (omega (arith, past))
-
-any_chosen : {A : Type 0} (p : A → Bool) (flags : List Bool) (xs : List A) → list_any p (listed_items flags xs) ≡ list_any (λ q. q.0 && p q.1) (zip flags xs)
-any_chosen p [] xs = refl
-any_chosen p (listed ∷ flags) [] = refl
-any_chosen p (listed ∷ flags) (x ∷ xs) = by_flag listed (any_chosen p flags xs)
-  where
-    by_flag : (b : Bool) → list_any p (listed_items flags xs) ≡ list_any (λ q. q.0 && p q.1) (zip flags xs)
-        → list_any p (cond b (x ∷ listed_items flags xs) (listed_items flags xs)) ≡ ((b && p x) || list_any (λ q. q.0 && p q.1) (zip flags xs))
-    by_flag true e = ap (λ (c : Bool). p x || c) e
-    by_flag false e = e
-
--- A key is changed at a listed column.
-pub changed_key : (flags : List Bool) (columns : List Column) (old new : List Value)
-    → list_any (λ p. p.0 && (p.1.0.is_key && not (same_value p.1.1.0 p.1.1.1))) (zip flags (zip columns (zip old new))) ≡ changes_key (listed_items flags columns) (listed_items flags old) (listed_items flags new)
-changed_key flags columns old new =
-    let test : Column × (Value × Value) → Bool = λ p. p.0.is_key && not (same_value p.1.0 p.1.1) in
-    sym (any_chosen test flags (zip columns (zip old new)))
-    ∙ ap (list_any test) (sym (ap (zip (listed_items flags columns)) (zip_chosen flags old new) ∙ zip_chosen flags columns (zip old new)))
 
 -- ---- what stands in a table stands in it with the listed columns alone
 

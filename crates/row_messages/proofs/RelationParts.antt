@@ -14,7 +14,7 @@ use Rattle.tables.specs.declared.column.Column.{Column}
 use Rattle.tables.specs.declared.identity.Identity.{Identity}
 use Rattle.tables.specs.declared.table.Table.{Table}
 use Rattle.publication_config.specs.Published.{is_identity, is_listed}
-use Rattle.row_messages.specs.declared.relation.TheConstants.{NO_MODIFIER}
+use Rattle.row_messages.specs.declared.put_relation.TheConstants.{NO_MODIFIER}
 use Rattle.row_messages.specs.Kinds.{type_oid}
 use Rattle.row_messages.specs.Relations.{identity_of, listed_items, relation_column, relation_of, table_as_published}
 use Rattle.pqformat.specs.Writing.{Writes}

@@ -117,7 +117,7 @@ stood t row stands =
       short = omega (arith, bound, coded);
     }
 
-pub whole_row : (t : Table) (row : List Value) → stands_in t row ≡ true → length t.columns ≡ length row
+whole_row : (t : Table) (row : List Value) → stands_in t row ≡ true → length t.columns ≡ length row
 whole_row t row stands = (stood t row stands).counts
 
 cells_short : (cells : List Cell) → length (flat_map cell cells) ≤ 4 * MAX_ROW_LENGTH → length (tuple cells) ≤ 2 + 4 * MAX_ROW_LENGTH

@@ -11,7 +11,7 @@ use Rattle.tables.specs.declared.identity.Identity.TheVariants as identities
 use Rattle.tables.specs.declared.column.Column.{Column}
 use Rattle.tables.specs.declared.table.Table.{Table}
 use Rattle.publication_config.specs.Published.{is_identity}
-use Rattle.row_messages.specs.declared.relation.TheConstants.{NO_MODIFIER}
+use Rattle.row_messages.specs.declared.put_relation.TheConstants.{NO_MODIFIER}
 use Rattle.row_messages.specs.Kinds.{type_oid}
 
 -- what stands at the places that a list has, in its order; the rest is left out

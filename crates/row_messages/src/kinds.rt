@@ -1,6 +1,6 @@
 //! The kinds of columns, and all that this crate knows of each: the type that a Relation tells, and a value as the cell of a tuple.
 
-ghost use Rattle.std.specs.Prelude.{◌≡◌, ◌+◌, ◌<◌, ◌≤◌, ◌^◌, ◌∷◌, [], IfOk, length, codes, if◌then◌else◌};
+ghost use Rattle.std.specs.Prelude.{◌≡◌, ◌+◌, ◌<◌, ◌≤◌, ◌^◌, length};
 ghost use Rattle.pgoutput.specs.Tuple.{cell};
 ghost use Rattle.pgoutput.specs.declared.tuple.Cell.TheVariants as cells;
 ghost use Rattle.pqformat.specs.Writing.{FitsRoom, Writes};
@@ -9,10 +9,9 @@ ghost use Rattle.row_messages.specs.Kinds.{cell_of, is_long, is_the_uuid, same_v
 ghost use Rattle.tables.specs.Kinds.{value_of};
 
 use itoa::Buffer;
-use pgoutput::{Cell, NULL, TEXT};
-use pqformat::{Text, write_byte, write_bytes, write_int32};
-use std::alloc::{AllocError, Global};
-use tables::{Kind, Value, ValueRef, uuid_of_halves};
+use pgoutput::{NULL, TEXT};
+use pqformat::{write_byte, write_bytes, write_int32};
+use tables::{Kind, ValueRef, uuid_of_halves};
 use uuid::Uuid;
 
 /// The OIDs of the types (PostgreSQL 15, pg_type).
@@ -45,26 +44,6 @@ pub(crate) fn oid_of(kind: Kind) -> u32
     }
 }
 
-/// The cell of a value: bool is `t` or `f`, an integer its decimal digits, a text its bytes, a UUID its digits
-/// between hyphens.
-pub(crate) fn cell(alloc: Global, value: &Value) -> Result<Cell, AllocError>
-    ensures { IfOk result (λ c. c ≡ cell_of value.now) }
-{
-    Ok(match value {
-        Value::Null => Cell::Null,
-        Value::Bool(true) => Cell::Text(Text::copy_of(alloc, "t")?),
-        Value::Bool(false) => Cell::Text(Text::copy_of(alloc, "f")?),
-        Value::Int2(n) => Cell::Text(Text::new(n.to_string(alloc)?)),
-        Value::Int4(n) => Cell::Text(Text::new(n.to_string(alloc)?)),
-        Value::Int8(n) => Cell::Text(Text::new(n.to_string(alloc)?)),
-        Value::Text(text) => Cell::Text(text.copy(alloc)?),
-        Value::Uuid(n) => {
-            let mut room = [0; UUID_TEXT_LENGTH];
-            Cell::Text(Text::copy_of(alloc, uuid_text(*n, &mut room))?)
-        }
-    })
-}
-
 /// How long the text of a UUID is.
 pub(crate) const UUID_TEXT_LENGTH: usize = 36;
 
@@ -88,7 +67,8 @@ fn put_text(out: &mut [u8], at: usize, text: &[u8]) -> usize
     write_bytes(out, sized, text)
 }
 
-/// The cell of a value, at a place of a slice.
+/// The cell of a value, at a place of a slice: bool is `t` or `f`, an integer its decimal digits, a text its bytes, a UUID its digits
+/// between hyphens.
 #[tactic(auto, using(crate::proofs::Written::sizes))]
 pub(crate) fn put_cell(out: &mut [u8], at: usize, value: ValueRef<'_>) -> usize
     requires { FitsRoom at out.old (cell (cell_of (value_of value))) }

@@ -13,11 +13,13 @@ ghost use Rattle.pqformat.specs.Writing.{Writes};
 ghost use Rattle.row_messages.specs.Spelling.{HasRoom};
 
 use crate::kinds::oid_of;
-use crate::relation::NO_MODIFIER;
 use pgoutput::{IDENTITY_DEFAULT, IDENTITY_FULL, IDENTITY_NOTHING, KEY_FLAG, NO_FLAG, RELATION};
 use pqformat::{write_byte, write_bytes, write_int16, write_int32};
 use publication_config::{is_in_identity, is_listed};
 use tables::{Column, Identity, Table};
+
+/// The modifier of a column whose type has none.
+pub const NO_MODIFIER: i32 = -1;
 
 /// The longest that the Relation tells of one column, in bytes: its flags, a name of 63 bytes with its end, its type and modifier.
 const MAX_COLUMN_LENGTH: usize = 73;
