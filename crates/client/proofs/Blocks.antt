@@ -22,7 +22,7 @@ use Rattle.pgoutput.specs.declared.published.PublishedChange.{PublishedChange}
 use Rattle.pgoutput.specs.Items.{Item, KeepaliveItem, Block, words_by, note_words, xlogdata_word, tables_of, is_relation_sent, relations_due, relations_sent_by, relations_sent_by_all, relation_words, change_words, changes_words, commit_message, item_words, relations_sent_after, FitsRelationOf, IsOldOf, IsOfChange, FitsChange, FitsNote, FitChanges, FitsItem}
 use Rattle.client.specs.declared.fault.ClientFault.{ClientFault}
 use Rattle.client.specs.declared.fault.ClientFault.TheVariants.{CommitEnd, Order, UnknownRelation}
-use Rattle.client.specs.Subscriber.{Subscriber, HalfTransaction, tables_with_relation, columns_of, fits, fits_old, are_told, judgement_of_change, with_change, note_of, after_end, after_logical_message, after_word, after_words}
+use Rattle.client.specs.Subscriber.{Subscriber, HalfTransaction, tables_with_relation, columns_of, fits, fits_old, are_told, judgement_of_change, with_change, note_of, after_logical_message, after_word, after_words}
 use Rattle.client.specs.Law.{IsForward, AreForward, position_after, gained_transactions}
 use Rattle.client.proofs.Reaching.{after_append}
 
