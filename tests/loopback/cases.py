@@ -67,6 +67,7 @@ from link import Link
 from resuming import (
     a_refusal_for_good_ends_it,
     a_silent_server_is_asked_and_then_lost,
+    a_transaction_that_ends_where_it_starts_ends_it,
     an_output_of_others_is_left_alone,
     cuts_and_kills_lose_and_repeat_nothing,
     cuts_and_kills_lose_and_repeat_no_message,
@@ -420,6 +421,7 @@ ALL = [
     cuts_do_not_show,
     pauses_grow_and_begin_again,
     a_refusal_for_good_ends_it,
+    a_transaction_that_ends_where_it_starts_ends_it,
     an_output_of_others_is_left_alone,
     an_output_of_the_other_form_is_left_alone,
     lines_of_json_tell_what_a_script_did,

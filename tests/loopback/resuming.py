@@ -152,6 +152,32 @@ def a_silent_server_is_asked_and_then_lost(pubd, subcat):
     return wrong + [f"that takes {took} s"] * bool(late)
 
 
+def begun(start):
+    """A Begin in an XLogData, as a server sends it."""
+    return framed(f"6477{start:016x}{start:016x}{9:016x}42{start:016x}{5:016x}{700:08x}")
+
+
+def committed(start, end):
+    """Its Commit."""
+    return framed(f"6477{end:016x}{end:016x}{9:016x}4300{start:016x}{end:016x}{5:016x}")
+
+
+def a_transaction_that_ends_where_it_starts_ends_it(pubd, subcat):
+    """A broken server sends one behind a whole one, twice. It would be printed each time."""
+    with socket.create_server(("127.0.0.1", 0)) as listener:
+        words = [word for word in words_of(subcat, listener.getsockname()[1]) if word != "--create"]
+        follower = subprocess.Popen(words, stdout=subprocess.PIPE, stderr=subprocess.PIPE, text=True)
+        client = listener.accept()[0]
+        asked_of(client, client.makefile("rb"), server_frames())
+        broken = begun(0xC8) + committed(0xC8, 0xC8)
+        client.sendall(STREAM_BEGINS + begun(0x64) + committed(0x64, 0xC8) + broken + broken)
+        printed, told = follower.communicate(timeout=60)
+        client.close()
+    wrong = [f"it ends with {follower.returncode}"] * (follower.returncode != 1)
+    wrong += [f"it prints {printed!r}"] * (printed != "BEGIN 700 0/64 5\nCOMMIT 0/64 0/C8 5\n")
+    return wrong + [f"it says {told!r}"] * (told != "subcat: K8: a commit does not end past its start\n")
+
+
 def a_refusal_for_good_ends_it(pubd, subcat):
     """A publication that is unknown, a slot that isn't there, and a name that no slot may have."""
     wrong = []

@@ -1,6 +1,6 @@
 -- The words of an item, and what they make of a subscriber that knows the tables whose Relation was sent.
 use Rattle.std.proofs.Common.{◌≡◌, ℕ, ℤ, Bool, true, false, cond, eqb, leb, ◌||◌, List, [], ◌∷◌, ◌++◌, length, map, max, Option, Some, None, Result, Ok, Err, refl, sym, ap, subst, ◌∙◌, append_assoc, arith}
-use Rattle.std.specs.Prelude.{nat_eq, pos, reverse}
+use Rattle.std.specs.Prelude.{◌<◌, nat_eq, nat_lt, pos, reverse}
 use Rattle.std.specs.List.{AllByRecursion}
 use Rattle.std.specs.Option.{ok_or}
 use Rattle.std.specs.Map.{lookup}
@@ -21,9 +21,9 @@ use Rattle.pgoutput.specs.declared.published.Published.{Published}
 use Rattle.pgoutput.specs.declared.published.PublishedChange.{PublishedChange}
 use Rattle.pgoutput.specs.Items.{Item, KeepaliveItem, Block, words_by, note_words, xlogdata_word, tables_of, is_relation_sent, relations_due, relations_sent_by, relations_sent_by_all, relation_words, change_words, changes_words, commit_message, item_words, relations_sent_after, FitsRelationOf, IsOldOf, IsOfChange, FitsChange, FitsNote, FitChanges, FitsItem}
 use Rattle.client.specs.declared.fault.ClientFault.{ClientFault}
-use Rattle.client.specs.declared.fault.ClientFault.TheVariants.{Order, UnknownRelation}
+use Rattle.client.specs.declared.fault.ClientFault.TheVariants.{CommitEnd, Order, UnknownRelation}
 use Rattle.client.specs.Subscriber.{Subscriber, HalfTransaction, tables_with_relation, columns_of, fits, fits_old, are_told, judgement_of_change, with_change, note_of, after_logical_message, after_word, after_words}
-use Rattle.client.specs.Law.{position_after, gained_transactions}
+use Rattle.client.specs.Law.{IsForward, AreForward, position_after, gained_transactions}
 use Rattle.client.proofs.Reaching.{after_append}
 
 abbrev pub at : ℕ → List Published → List (ℕ × ℕ) → Option HalfTransaction → Subscriber
@@ -212,15 +212,22 @@ published_of is_note start end time xid changes = record { is_note = is_note; st
 abbrev new_one : ℕ → ℕ → Published → List Published
 new_one p start t = cond (leb p start) (t ∷ []) []
 
-commits : (p : ℕ) (a : List Published) (tables : List (ℕ × ℕ)) (clock : ℤ) (t : Published) → t.is_note ≡ false
+commits : (p : ℕ) (a : List Published) (tables : List (ℕ × ℕ)) (clock : ℤ) (t : Published) → t.is_note ≡ false → t.start < t.end
     → after_word (at p a tables (Some (record { begin = record { position = t.start; time = t.time; xid = t.xid }; changes = t.changes }))) (xlogdata_word t.end clock (commit_message t))
     ≡ Ok (at (max p t.end) (a ++ new_one p t.start t) tables None)
-commits p a tables clock t kind = by_test (eqb t.start t.start) (grind (arith, nat_tests)) ∙ ap (λ (b : Bool). gone (after (published_of b t.start t.end t.time t.xid t.changes))) (sym kind)
+commits p a tables clock t kind forward = by_test (eqb t.start t.start) (grind (arith, nat_tests)) ∙ by_end (nat_lt t.start t.end) (grind (arith, nat_tests, forward)) ∙ ap (λ (b : Bool). gone (after (published_of b t.start t.end t.time t.xid t.changes))) (sym kind)
   where
     after : Published → Subscriber
     after u = at (max p t.end) (a ++ new_one p t.start u) tables None
 
-    by_test : (b : Bool) → b ≡ true → cond b (gone (after (published_of false t.start t.end t.time t.xid t.changes))) (Err Order) ≡ gone (after (published_of false t.start t.end t.time t.xid t.changes))
+    by_end : (b : Bool) → b ≡ true → cond b (gone (after (published_of false t.start t.end t.time t.xid t.changes))) (Err CommitEnd) ≡ gone (after (published_of false t.start t.end t.time t.xid t.changes))
+    by_end true is = refl
+    by_end false is = absurd cc
+
+    ended : Result Subscriber ClientFault
+    ended = cond (nat_lt t.start t.end) (gone (after (published_of false t.start t.end t.time t.xid t.changes))) (Err CommitEnd)
+
+    by_test : (b : Bool) → b ≡ true → cond b ended (Err Order) ≡ ended
     by_test true is = refl
     by_test false is = absurd cc
 
@@ -250,28 +257,28 @@ record BlockGoes (relation : ℕ → Relation) (relations_sent : List ℕ) (p : 
   steps : after_words (at p a tables None) (words_by is_note relation relations_sent clock t) ≡ Ok (at (max p t.end) (a ++ new_one p t.start t) after None)
   told : Told relation (relations_sent_by_all relations_sent t.changes) after
 
-block_goes : (relation : ℕ → Relation) (relations_sent : List ℕ) (p : ℕ) (a : List Published) (tables : List (ℕ × ℕ)) (clock : ℤ) (t : Published) (is_note : Bool) → t.is_note ≡ is_note → FitChanges is_note relation t → Told relation relations_sent tables
+block_goes : (relation : ℕ → Relation) (relations_sent : List ℕ) (p : ℕ) (a : List Published) (tables : List (ℕ × ℕ)) (clock : ℤ) (t : Published) (is_note : Bool) → t.is_note ≡ is_note → FitChanges is_note relation t → IsForward t → Told relation relations_sent tables
     → BlockGoes relation relations_sent p a tables clock t is_note
-block_goes relation relations_sent p a tables clock t true kind fit told = record {
+block_goes relation relations_sent p a tables clock t true kind fit forward told = record {
   after = tables;
   steps = notes p a tables clock t kind fit;
   told = subst (λ (cs : List PublishedChange). Told relation (relations_sent_by_all relations_sent cs) tables) (sym fit.is) told;
 }
-block_goes relation relations_sent p a tables clock t false kind fit told =
+block_goes relation relations_sent p a tables clock t false kind fit forward told =
     let begin : Begin = record { position = t.start; time = t.time; xid = t.xid } in
     let changes = changes_go relation relations_sent p a tables begin [] clock t.changes fit told in
     let begun = at p a tables (Some (record { begin = begin; changes = [] })) in
     record {
       after = changes.tables;
       steps = after_append begun (changes_words relation relations_sent clock t.changes) (xlogdata_word t.end clock (commit_message t) ∷ []) (at p a changes.tables (Some (record { begin = begin; changes = t.changes }))) changes.steps
-          ∙ ap (λ (x : Result Subscriber ClientFault). x >>= λ u. after_words u []) (commits p a changes.tables clock t kind);
+          ∙ ap (λ (x : Result Subscriber ClientFault). x >>= λ u. after_words u []) (commits p a changes.tables clock t kind (forward kind));
       told = changes.told;
     }
 
-pub item_goes : (relation : ℕ → Relation) (relations_sent : List ℕ) (p : ℕ) (a : List Published) (tables : List (ℕ × ℕ)) (item : Item) → FitsItem relation item → Told relation relations_sent tables → GoesOn relation relations_sent p a tables item
-item_goes relation relations_sent p a tables (KeepaliveItem k) fit told = record { after = tables; steps = ap (λ (l : List Published). gone (at (max p k.position) l tables None)) (sym (append-nil a)); told = told }
-item_goes relation relations_sent p a tables (Block clock t) fit told =
-    let goes = block_goes relation relations_sent p a tables clock t t.is_note refl fit.1.changes told in
+pub item_goes : (relation : ℕ → Relation) (relations_sent : List ℕ) (p : ℕ) (a : List Published) (tables : List (ℕ × ℕ)) (item : Item) → FitsItem relation item → AreForward (item ∷ []) → Told relation relations_sent tables → GoesOn relation relations_sent p a tables item
+item_goes relation relations_sent p a tables (KeepaliveItem k) fit forward told = record { after = tables; steps = ap (λ (l : List Published). gone (at (max p k.position) l tables None)) (sym (append-nil a)); told = told }
+item_goes relation relations_sent p a tables (Block clock t) fit forward told =
+    let goes = block_goes relation relations_sent p a tables clock t t.is_note refl fit.1.changes forward.0 told in
     record {
       after = goes.after;
       steps = goes.steps ∙ ap (λ (l : List Published). gone (at (max p t.end) (a ++ l) goes.after None)) (sym (append-nil (new_one p t.start t)));

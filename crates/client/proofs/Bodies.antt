@@ -56,6 +56,7 @@ unread_message body m faults.Frame spelled no_message = by_word
 unread_message body m faults.Memory spelled unread = (m, spelled, unread)
 unread_message body m faults.Order spelled unread = absurd unread
 unread_message body m faults.UnknownRelation spelled unread = absurd unread
+unread_message body m faults.CommitEnd spelled unread = absurd unread
 unread_message body m faults.Server spelled unread = absurd unread
 
 -- a fault that is passed on

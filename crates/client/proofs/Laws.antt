@@ -18,7 +18,7 @@ use Rattle.client.specs.declared.fault.ClientFault.TheVariants as faults
 use Rattle.client.specs.Words.{Waits, IsNoWord, IsError, Holds}
 use Rattle.client.specs.Subscriber.{Subscriber, subscriber_at_rest, after_word, after_words}
 use Rattle.client.specs.Taking.{ApplierState, Reached, IsRefused, Stops, StopsAfter}
-use Rattle.client.specs.Law.{relations_sent_with, IsLess, Gained, Follows}
+use Rattle.client.specs.Law.{AreForward, relations_sent_with, IsLess, Gained, Follows}
 use Rattle.client.proofs.Reaching.{after_append, reached_on}
 use Rattle.client.proofs.Fronts.{says_word, shows, same_word, not_empty, Aligned, aligned}
 use Rattle.client.proofs.Blocks.{at, Told}
@@ -58,6 +58,7 @@ only_memory faults.Frame s end rest more vs fits is steps stops = absurd ((reada
 only_memory faults.Server s end rest more vs fits is steps stops = absurd ((readable rest more vs fits is).1 stops)
 only_memory faults.Order s end rest more vs fits is steps stops = absurd (taken faults.Order s end rest more vs fits is steps stops)
 only_memory faults.UnknownRelation s end rest more vs fits is steps stops = absurd (taken faults.UnknownRelation s end rest more vs fits is steps stops)
+only_memory faults.CommitEnd s end rest more vs fits is steps stops = absurd (taken faults.CommitEnd s end rest more vs fits is steps stops)
 only_memory faults.Memory s end rest more vs fits is steps stops = refl
 
 -- ---- what it gained
@@ -74,20 +75,20 @@ begun_by : (relation : ℕ → Relation) (items : List Item) (base : Subscriber)
 begun_by relation items base bytes new rest more r fit e =
     aligned r.text r.words (words_of relation [] items) (rest ++ more) r.spells (words_fit relation [] items fit) (sym (append_assoc r.text rest more) ∙ ap (λ (l : List ℕ). l ++ more) (sym r.is) ∙ e)
 
-no_fault : (relation : ℕ → Relation) (items : List Item) (base : Subscriber) (bytes : List ℕ) (new : Subscriber) (more : List ℕ) (e : ClientFault) → base ≡ subscriber_at_rest base.position base.applied → FitItems relation items
+no_fault : (relation : ℕ → Relation) (items : List Item) (base : Subscriber) (bytes : List ℕ) (new : Subscriber) (more : List ℕ) (e : ClientFault) → base ≡ subscriber_at_rest base.position base.applied → FitItems relation items → AreForward items
     → bytes ++ more ≡ bytes_of_items relation [] items → StopsAfter base bytes new e → e ≡ faults.Memory
-no_fault relation items base bytes new more e rests fit is stops =
+no_fault relation items base bytes new more e rests fit forward is stops =
     let r = stops.reached in
     let b = begun_by relation items base bytes new stops.rest more r fit is in
-    let all = all_go relation [] base.position base.applied [] items fit (none_told relation) in
+    let all = all_go relation [] base.position base.applied [] items fit forward (none_told relation) in
     let whole : after_words base (r.words ++ b.more) ≡ Ok all.0 = ap (after_words base) (sym b.is) ∙ ap (λ (s : Subscriber). after_words s (words_of relation [] items)) rests ∙ all.1 in
     let later : after_words new b.more ≡ Ok all.0 = sym (after_append base r.words b.more new r.steps) ∙ whole in
     only_memory e new all.0 stops.rest more b.more b.fits b.rest later stops.stops
 
 -- the items that stand whole in what was taken
-standing : (relation : ℕ → Relation) (items : List Item) (base : Subscriber) (bytes : List ℕ) (new : Subscriber) (rest more : List ℕ) (r : Reached base bytes new rest) → FitItems relation items
+standing : (relation : ℕ → Relation) (items : List Item) (base : Subscriber) (bytes : List ℕ) (new : Subscriber) (rest more : List ℕ) (r : Reached base bytes new rest) → FitItems relation items → AreForward items
     → (b : Begins relation items base bytes new rest more r) → Stands relation [] base.position base.applied (at base.position base.applied [] None) r.words b.more items
-standing relation items base bytes new rest more r fit b = stands relation [] base.position base.applied [] r.words b.more items fit (none_told relation) (sym b.is)
+standing relation items base bytes new rest more r fit forward b = stands relation [] base.position base.applied [] r.words b.more items fit forward (none_told relation) (sym b.is)
 
 same_subscriber : (relation : ℕ → Relation) (items : List Item) (base : Subscriber) (bytes : List ℕ) (new : Subscriber) (rest : List ℕ) (vs : List Word) (r : Reached base bytes new rest) → base ≡ subscriber_at_rest base.position base.applied
     → (s : Stands relation [] base.position base.applied (at base.position base.applied [] None) r.words vs items) → new ≡ s.new
@@ -133,10 +134,10 @@ less relation relations_sent part vs rest more (item ∷ items) begun fits e wai
 -- ---- the law of a call
 
 pub follows_ok : (old new : ApplierState) (bytes : List ℕ) → Reached old.subscriber (old.unread ++ bytes) new.subscriber new.unread → Waits new.unread → new.fault ≡ None → Follows old new bytes (Ok tt)
-follows_ok old new bytes went waits sound relation base before more items rests had fit e =
+follows_ok old new bytes went waits sound relation base before more items rests had fit forward e =
     let r = reached_on base before old.subscriber old.unread bytes new.subscriber new.unread had.reached went in
     let b = begun_by relation items base (before ++ bytes) new.subscriber new.unread more r fit e in
-    let s = standing relation items base (before ++ bytes) new.subscriber new.unread more r fit b in (
+    let s = standing relation items base (before ++ bytes) new.subscriber new.unread more r fit forward b in (
       record { reached = r; waits = waits; sound = sound },
       record {
         gains = gains_of relation items base (before ++ bytes) new.subscriber new.unread more r rests b s;
@@ -145,10 +146,10 @@ follows_ok old new bytes went waits sound relation base before more items rests 
     )
 
 pub follows_err : (old new : ApplierState) (bytes : List ℕ) (fault : ClientFault) → StopsAfter old.subscriber (old.unread ++ bytes) new.subscriber fault → Follows old new bytes (Err fault)
-follows_err old new bytes fault stops relation base before more items rests had fit e =
+follows_err old new bytes fault stops relation base before more items rests had fit forward e =
     let r = reached_on base before old.subscriber old.unread bytes new.subscriber stops.rest had.reached stops.reached in
     let b = begun_by relation items base (before ++ bytes) new.subscriber stops.rest more r fit e in
-    let s = standing relation items base (before ++ bytes) new.subscriber stops.rest more r fit b in (
-      no_fault relation items base (before ++ bytes) new.subscriber more fault rests fit e (record { rest = stops.rest; reached = r; stops = stops.stops }),
+    let s = standing relation items base (before ++ bytes) new.subscriber stops.rest more r fit forward b in (
+      no_fault relation items base (before ++ bytes) new.subscriber more fault rests fit forward e (record { rest = stops.rest; reached = r; stops = stops.stops }),
       gains_of relation items base (before ++ bytes) new.subscriber stops.rest more r rests b s,
     )

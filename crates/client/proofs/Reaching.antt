@@ -1,6 +1,6 @@
 -- From one subscriber to another: by no word, by one, and one stretch behind the other; and why none goes further.
 use Rattle.std.proofs.Common.{◌≡◌, ℕ, Bool, true, false, cond, eqb, List, [], ◌∷◌, ◌++◌, length, take, drop, Option, Some, None, Result, Ok, Err, refl, sym, ap, subst, ◌∙◌, append_assoc, inl, inr}
-use Rattle.std.specs.Prelude.{◌⊎◌, nat_eq, IfErr}
+use Rattle.std.specs.Prelude.{◌⊎◌, nat_eq, nat_lt, IfErr}
 use Rattle.std.specs.Result.{IsErrAnd}
 use Rattle.std.specs.Option.{ok_or}
 use Rattle.std.specs.Map.{lookup}
@@ -21,7 +21,7 @@ use Rattle.pgoutput.specs.declared.word.Word.TheVariants as words
 use Rattle.client.specs.declared.fault.ClientFault.{ClientFault}
 use Rattle.client.specs.declared.fault.ClientFault.TheVariants as faults
 use Rattle.client.specs.Words.{SpellsWord, AreSpelled, IsUnread}
-use Rattle.client.specs.Subscriber.{Subscriber, HalfTransaction, columns_of, fits, fits_old, are_told, judgement_of_change, after_begin, after_relation, after_change, after_note, after_logical_message, after_commit, after_transaction, with_change, after_message, after_word, after_words, Makes}
+use Rattle.client.specs.Subscriber.{Subscriber, HalfTransaction, columns_of, fits, fits_old, are_told, judgement_of_change, after_begin, after_relation, after_change, after_note, after_logical_message, after_commit, after_end, after_transaction, with_change, after_message, after_word, after_words, Makes}
 use Rattle.client.specs.Taking.{Reached, Stops}
 
 -- a step that fails, or the one behind it
@@ -84,11 +84,12 @@ pub reached_more : (s : Subscriber) (bytes : List ℕ) (t : Subscriber) (mid : L
 reached_more s bytes t mid u rest first then =
     subst (λ (l : List ℕ). Reached s l u rest) (append-nil bytes) (reached_on s bytes t mid [] u rest first (subst (λ (l : List ℕ). Reached t l u rest) (sym (append-nil mid)) then))
 
--- ---- a subscriber refuses a word for its order, or for a table that wasn't told, and for nothing else
+-- ---- a subscriber refuses a word for its order, for a table that wasn't told, or for where it ends, and for nothing else
 
 abbrev IsRefusal : ClientFault → Type 0
 IsRefusal faults.Order = Unit {0}
 IsRefusal faults.UnknownRelation = Unit {0}
+IsRefusal faults.CommitEnd = Unit {0}
 IsRefusal e = ⊥
 
 refused_columns : (tables : List (ℕ × ℕ)) (oid : ℕ) (e : ClientFault) → columns_of tables oid ≡ Err e → IsRefusal e
@@ -159,8 +160,12 @@ refused_commit : (half : Option HalfTransaction) (s : Subscriber) (m : Commit) (
 refused_commit None s m e is = out_of_order e (after_commit None s m) refl is
 refused_commit (Some half) s m e is = by_test (eqb m.position half.begin.position) is
   where
-    by_test : (b : Bool) → cond b (Ok (after_transaction s half m)) (Err faults.Order) ≡ Err e → IsRefusal e
-    by_test true is = absurd cc
+    by_end : (b : Bool) → cond b (Ok (after_transaction s half m)) (Err faults.CommitEnd) ≡ Err e → IsRefusal e
+    by_end true is = absurd cc
+    by_end false is = let same : faults.CommitEnd ≡ e = cc in subst IsRefusal same tt
+
+    by_test : (b : Bool) → cond b (after_end s half m) (Err faults.Order) ≡ Err e → IsRefusal e
+    by_test true is = by_end (nat_lt half.begin.position m.end) is
     by_test false is = let same : faults.Order ≡ e = cc in subst IsRefusal same tt
 
 refused_changed : (half : Option HalfTransaction) (s : Subscriber) (position : ℕ) (m : Logical) (e : ClientFault) → after_change half s position m ≡ Err e → IsRefusal e
@@ -202,6 +207,7 @@ stopped s bytes w n e new spelled made = by_fault e made
     by_fault : (e : ClientFault) → Makes (Err e) s new (after_word s w) → Stops e s bytes
     by_fault faults.Order made = refused faults.Order made.1
     by_fault faults.UnknownRelation made = refused faults.UnknownRelation made.1
+    by_fault faults.CommitEnd made = refused faults.CommitEnd made.1
     by_fault faults.Memory made = tt
     by_fault faults.Frame made = absurd (refused_word s w faults.Frame made.1)
     by_fault faults.Server made = absurd (refused_word s w faults.Server made.1)
@@ -213,3 +219,4 @@ stopped_unread s bytes faults.Server unread = unread
 stopped_unread s bytes faults.Memory unread = unread
 stopped_unread s bytes faults.Order unread = absurd unread
 stopped_unread s bytes faults.UnknownRelation unread = absurd unread
+stopped_unread s bytes faults.CommitEnd unread = absurd unread

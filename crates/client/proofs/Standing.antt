@@ -15,7 +15,7 @@ use Rattle.pgoutput.proofs.Lists.{all_of_both}
 use Rattle.pgoutput.specs.Items.{Item, KeepaliveItem, Block, words_by, note_words, xlogdata_word, tables_of, relations_due, relations_sent_by, relation_words, change_words, changes_words, begin_message, commit_message, item_words, words_of, relations_sent_after, IsOfChange, FitsChange, FitChanges, FitsItem, FitItems}
 use Rattle.client.specs.declared.fault.ClientFault.{ClientFault}
 use Rattle.client.specs.Subscriber.{Subscriber, HalfTransaction, judgement_of_change, after_begin, after_relation, after_change, with_change, after_logical_message, after_message, after_word, after_words}
-use Rattle.client.specs.Law.{position_after, gained_transactions, relations_sent_with}
+use Rattle.client.specs.Law.{AreForward, position_after, gained_transactions, relations_sent_with}
 use Rattle.client.proofs.Reaching.{after_append}
 use Rattle.client.proofs.Blocks.{at, Told, item_goes}
 
@@ -210,18 +210,24 @@ gained_one : (p : ℕ) (item : Item) (items : List Item) → gained_transactions
 gained_one p (KeepaliveItem k) items = refl
 gained_one p (Block clock t) items = ap (λ (l : List Published). l ++ gained_transactions (max p t.end) items) (sym (append-nil (cond (leb p t.start) (t ∷ []) [])))
 
-pub stands : (relation : ℕ → Relation) (relations_sent : List ℕ) (p : ℕ) (a : List Published) (tables : List (ℕ × ℕ)) (ws more : List Word) (items : List Item) → FitItems relation items → Told relation relations_sent tables
+-- one of them, and the others
+forward_one : (item : Item) (items : List Item) → AreForward (item ∷ items) → AreForward (item ∷ []) × AreForward items
+forward_one (KeepaliveItem k) items forward = (tt, forward)
+forward_one (Block clock t) items forward = ((forward.0, tt), forward.1)
+
+pub stands : (relation : ℕ → Relation) (relations_sent : List ℕ) (p : ℕ) (a : List Published) (tables : List (ℕ × ℕ)) (ws more : List Word) (items : List Item) → FitItems relation items → AreForward items → Told relation relations_sent tables
     → ws ++ more ≡ words_of relation relations_sent items → Stands relation relations_sent p a (at p a tables None) ws more items
-stands relation relations_sent p a tables [] more [] fit told e =
+stands relation relations_sent p a tables [] more [] fit forward told e =
     record { done = []; others = []; part = []; is = refl; words = refl; begun = (refl, e); new = at p a tables None; steps = refl; position = refl; applied = sym (append-nil a) }
-stands relation relations_sent p a tables (w ∷ ws) more [] fit told e = absurd cc
-stands relation relations_sent p a tables ws more (item ∷ items) fit told e =
+stands relation relations_sent p a tables (w ∷ ws) more [] fit forward told e = absurd cc
+stands relation relations_sent p a tables ws more (item ∷ items) fit forward told e =
+    let both = forward_one item items forward in
     let own = item_words relation relations_sent item in
     let behind = words_of relation (relations_sent_after relations_sent item) items in
-    let goes = item_goes relation relations_sent p a tables item fit.0 told in
+    let goes = item_goes relation relations_sent p a tables item fit.0 both.0 told in
     elim (meet ws more own behind e) [
       | inl past ↦
-          let inner = stands relation (relations_sent_after relations_sent item) (position_after p (item ∷ [])) (a ++ gained_transactions p (item ∷ [])) goes.after past.rest more items fit.1 goes.told past.behind in
+          let inner = stands relation (relations_sent_after relations_sent item) (position_after p (item ∷ [])) (a ++ gained_transactions p (item ∷ [])) goes.after past.rest more items fit.1 both.1 goes.told past.behind in
           record {
             done = item ∷ inner.done;
             others = inner.others;
@@ -255,8 +261,8 @@ stands relation relations_sent p a tables ws more (item ∷ items) fit told e =
     ]
 
 -- all of it goes through
-pub all_go : (relation : ℕ → Relation) (relations_sent : List ℕ) (p : ℕ) (a : List Published) (tables : List (ℕ × ℕ)) (items : List Item) → FitItems relation items → Told relation relations_sent tables
+pub all_go : (relation : ℕ → Relation) (relations_sent : List ℕ) (p : ℕ) (a : List Published) (tables : List (ℕ × ℕ)) (items : List Item) → FitItems relation items → AreForward items → Told relation relations_sent tables
     → (end : Subscriber) × (after_words (at p a tables None) (words_of relation relations_sent items) ≡ Ok end)
-all_go relation relations_sent p a tables items fit told =
-    let s = stands relation relations_sent p a tables (words_of relation relations_sent items) [] items fit told (append-nil (words_of relation relations_sent items)) in
+all_go relation relations_sent p a tables items fit forward told =
+    let s = stands relation relations_sent p a tables (words_of relation relations_sent items) [] items fit forward told (append-nil (words_of relation relations_sent items)) in
     (s.new, s.steps)

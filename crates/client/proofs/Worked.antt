@@ -9,7 +9,7 @@ use Rattle.pgoutput.specs.declared.word.Word.{Word}
 use Rattle.pgoutput.specs.declared.published.Published.{Published}
 use Rattle.pgoutput.specs.Items.{Item, KeepaliveItem, Block, xlogdata_word, keepalive_word, begin_message, commit_message, words_of}
 use Rattle.client.specs.declared.fault.ClientFault.{ClientFault}
-use Rattle.client.specs.declared.fault.ClientFault.TheVariants.{Order, UnknownRelation}
+use Rattle.client.specs.declared.fault.ClientFault.TheVariants.{CommitEnd, Order, UnknownRelation}
 use Rattle.client.specs.Subscriber.{Subscriber, subscriber_at_rest, after_words}
 use Rattle.client.specs.Law.{position_after, gained_transactions}
 
@@ -125,3 +125,20 @@ too_short = refl
 
 another_commit : applied (subscriber_at_rest 0 []) (xlogdata_word 0 (pos 9) (begin_message transaction) ∷ xlogdata_word 0 (pos 9) (logical.Commit (record { position = 0x1000031; end = 0x1000050; time = pos 5 })) ∷ []) ≡ Err Order
 another_commit = refl
+
+-- ---- a commit that doesn't end past its start, applied before or not
+
+abbrev ending_at : ℕ → List Word
+ending_at end = xlogdata_word 0 (pos 9) (begin_message transaction) ∷ xlogdata_word 0 (pos 9) (logical.Commit (record { position = 0x1000030; end = end; time = pos 5 })) ∷ []
+
+ends_below : applied (subscriber_at_rest 0 []) (ending_at 0) ≡ Err CommitEnd
+ends_below = refl
+
+ends_where_it_starts : applied (subscriber_at_rest 0 []) (ending_at 0x1000030) ≡ Err CommitEnd
+ends_where_it_starts = refl
+
+ends_past : applied (subscriber_at_rest 0 []) (ending_at 0x1000031) ≡ Ok (record { position = 0x1000031; applied = record transaction { end = 0x1000031; changes = [] } ∷ []; tables = []; half = None })
+ends_past = refl
+
+skipped_ends_below : applied (subscriber_at_rest 0x1000050 []) (ending_at 0) ≡ Err CommitEnd
+skipped_ends_below = refl

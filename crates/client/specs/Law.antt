@@ -1,13 +1,21 @@
 -- What a stream makes of a subscriber: from each beginning of it, in any cuts, the transactions that stand whole there.
-use Rattle.std.specs.Prelude.{◌≡◌, ℕ, ◌<◌, List, [], ◌∷◌, ◌++◌, length, max, nat_le, Result, Ok, Err, if◌then◌else◌}
+use Rattle.std.specs.Prelude.{◌≡◌, ℕ, ◌<◌, false, List, [], ◌∷◌, ◌++◌, length, max, nat_le, Result, Ok, Err, if◌then◌else◌}
+use Rattle.std.specs.List.{AllByRecursion}
 use Rattle.pgoutput.specs.declared.relation.Relation.{Relation}
 use Rattle.pgoutput.specs.declared.published.Published.{Published}
 use Rattle.pgoutput.specs.Words.{frames_of}
-use Rattle.pgoutput.specs.Items.{Item, KeepaliveItem, Block, bytes_of_items, item_words, relations_sent_after, FitItems}
+use Rattle.pgoutput.specs.Items.{Item, KeepaliveItem, Block, bytes_of_items, item_words, relations_sent_after, transactions_of, FitItems}
 use Rattle.client.specs.declared.fault.ClientFault.{ClientFault}
 use Rattle.client.specs.declared.fault.ClientFault.TheVariants.{Memory}
 use Rattle.client.specs.Subscriber.{Subscriber, subscriber_at_rest}
 use Rattle.client.specs.Taking.{ApplierState, HasTaken}
+
+-- a transaction's end lies past where its commit record starts
+abbrev pub IsForward : Published → Type 0
+IsForward t = t.is_note ≡ false → t.start < t.end
+
+abbrev pub AreForward : List Item → Type 0
+AreForward items = AllByRecursion IsForward (transactions_of items)
 
 -- the position behind these items: the greatest of the old one, the ends of the blocks and the numbers of the keepalives
 abbrev pub position_after : ℕ → List Item → ℕ
@@ -51,11 +59,11 @@ abbrev pub Ends : (ℕ → Relation) → Subscriber → ApplierState → List �
 Ends relation base a bytes items (Ok u) = HasTaken base a bytes × GainedAll relation base bytes items a.subscriber
 Ends relation base a bytes items (Err e) = (e ≡ Memory) × Gained relation base bytes items a.subscriber
 
--- A subscriber has connected at `base` and taken some bytes. Where these and those that come begin a stream, nothing but
--- want of memory refuses them, and all that stands whole in them has been gained.
+-- A subscriber has connected at `base` and taken some bytes. Where these and those that come begin a stream whose transactions
+-- end past their starts, nothing but want of memory refuses them, and all that stands whole in them has been gained.
 abbrev pub Follows : ApplierState → ApplierState → List ℕ → Result (Unit {0}) ClientFault → Type 0
 Follows old new bytes result =
     (relation : ℕ → Relation) (base : Subscriber) (before more : List ℕ) (items : List Item)
     → base ≡ subscriber_at_rest base.position base.applied → HasTaken base old before
-    → FitItems relation items → (before ++ bytes) ++ more ≡ bytes_of_items relation [] items
+    → FitItems relation items → AreForward items → (before ++ bytes) ++ more ≡ bytes_of_items relation [] items
     → Ends relation base new (before ++ bytes) items result

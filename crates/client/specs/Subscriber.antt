@@ -1,5 +1,5 @@
 -- A subscriber, and what each word of the stream makes of it.
-use Rattle.std.specs.Prelude.{◌≡◌, ℕ, ◌==◌, Bool, true, false, pos, List, [], ◌∷◌, ◌++◌, length, max, nat_eq, nat_le, Option, Some, None, Result, Ok, Err, if◌then◌else◌}
+use Rattle.std.specs.Prelude.{◌≡◌, ℕ, ◌==◌, Bool, true, false, pos, List, [], ◌∷◌, ◌++◌, length, max, nat_eq, nat_le, nat_lt, Option, Some, None, Result, Ok, Err, if◌then◌else◌}
 use Rattle.std.specs.Option.{ok_or}
 use Rattle.std.specs.Map.{lookup}
 use Rattle.indexmap.specs.IndexMap.{insert_entry}
@@ -19,7 +19,7 @@ use Rattle.pgoutput.specs.declared.word.Keepalive.{Keepalive}
 use Rattle.pgoutput.specs.declared.published.Published.{Published}
 use Rattle.pgoutput.specs.declared.published.PublishedChange.{PublishedChange}
 use Rattle.client.specs.declared.fault.ClientFault.{ClientFault}
-use Rattle.client.specs.declared.fault.ClientFault.TheVariants.{Order, UnknownRelation, Memory}
+use Rattle.client.specs.declared.fault.ClientFault.TheVariants.{CommitEnd, Order, UnknownRelation, Memory}
 
 -- a transaction of which the Commit hasn't come
 pub record HalfTransaction : Type 0 where
@@ -99,9 +99,13 @@ after_transaction s half m = record s {
   applied = s.applied ++ (if nat_le s.position half.begin.position then transaction_of half m ∷ [] else []);
 }
 
+-- Its end lies past where its commit record starts: so what was applied is below the position, and is never applied again.
+abbrev pub after_end : Subscriber → HalfTransaction → Commit → Result Subscriber ClientFault
+after_end s half m = if nat_lt half.begin.position m.end then Ok (after_transaction s half m) else Err CommitEnd
+
 abbrev pub after_commit : Option HalfTransaction → Subscriber → Commit → Result Subscriber ClientFault
 after_commit None s m = Err Order
-after_commit (Some half) s m = if m.position == half.begin.position then Ok (after_transaction s half m) else Err Order
+after_commit (Some half) s m = if m.position == half.begin.position then after_end s half m else Err Order
 
 -- a note, a message outside of transactions, as it is applied
 abbrev pub note_of : ℕ → Message → Published

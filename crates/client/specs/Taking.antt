@@ -2,7 +2,7 @@
 use Rattle.std.specs.Prelude.{◌≡◌, ℕ, ◌⊎◌, List, ◌++◌, Option, Some, None, Result, Ok, Err}
 use Rattle.pgoutput.specs.declared.word.Word.{Word}
 use Rattle.client.specs.declared.fault.ClientFault.{ClientFault}
-use Rattle.client.specs.declared.fault.ClientFault.TheVariants.{Order, UnknownRelation}
+use Rattle.client.specs.declared.fault.ClientFault.TheVariants.{CommitEnd, Order, UnknownRelation}
 use Rattle.client.specs.Subscriber.{Subscriber, after_word, after_words}
 use Rattle.client.specs.Words.{SpellsWord, AreSpelled, Waits, IsUnread, TakesMemory}
 
@@ -28,6 +28,7 @@ IsRefused e s rest = (w : Word) × (text more : List ℕ) × SpellsWord text w �
 abbrev pub Stops : ClientFault → Subscriber → List ℕ → Type 0
 Stops Order s rest = IsRefused Order s rest
 Stops UnknownRelation s rest = IsRefused UnknownRelation s rest
+Stops CommitEnd s rest = IsRefused CommitEnd s rest
 Stops e s rest = IsUnread e rest
 
 -- whole words were taken, and what is behind them stops it

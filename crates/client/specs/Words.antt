@@ -15,7 +15,7 @@ use Rattle.pgoutput.specs.Logical.{SpellsLogical, Stands}
 use Rattle.pgoutput.specs.declared.word.Word.{Word}
 use Rattle.pgoutput.specs.declared.word.Word.TheVariants as words
 use Rattle.client.specs.declared.fault.ClientFault.{ClientFault}
-use Rattle.client.specs.declared.fault.ClientFault.TheVariants.{Frame, Order, UnknownRelation, Server, Memory}
+use Rattle.client.specs.declared.fault.ClientFault.TheVariants.{CommitEnd, Frame, Order, UnknownRelation, Server, Memory}
 
 -- What a CopyData holds says the word: a keepalive, of whose last byte 1 asks and every other doesn't, or an XLogData
 -- with one logical message.
@@ -69,6 +69,7 @@ IsUnread Server rest = Holds IsError ⊥ (framed_back rest)
 IsUnread Memory rest = Unit {0}
 IsUnread Order rest = ⊥
 IsUnread UnknownRelation rest = ⊥
+IsUnread CommitEnd rest = ⊥
 
 -- what reading the word at the front answers: the word and how many bytes it takes, or why there is none
 abbrev pub Reads : List ℕ → Result (Option (Word × ℕ)) ClientFault → Type 0

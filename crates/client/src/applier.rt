@@ -135,11 +135,13 @@ impl Applier {
     /// K1 where it is no frame of a stream: none that a server sends, another than CopyData and ErrorResponse, or a CopyData
     /// that holds no message or keepalive. K2 at Begin inside a transaction, any other message outside one, a Commit whose
     /// position isn't its Begin's, and a tuple with another count of cells than its table has columns. K3 at a table that
-    /// wasn't told on this connection. K4 at an ErrorResponse. K5 for memory.
+    /// wasn't told on this connection. K4 at an ErrorResponse. K5 for memory. K8 at a Commit whose end isn't past its position, so
+    /// that nothing is applied twice, whatever comes.
     pub fn take(&mut self, bytes: &[u8]) -> Result<(), ClientFault>
         // Whole words are taken one after the other; a fault is answered where it stands.
         ensures takes { Takes self.old self.new bytes.now result }
-        // Over a stream nothing but want of memory is refused, and what stands whole is gained.
+        // Over a stream whose transactions end past their starts nothing but want of memory is refused, and what stands whole is
+        // gained.
         ensures follows { Follows self.old self.new bytes.now result }
         // Want of memory is answered for the bytes themselves, before a word is taken, or at a frame that is kept.
         ensures memory { self.old.fault ≡ None → result ≡ Err ClientFault.Memory →

@@ -1,4 +1,4 @@
-//! The faults of an applier, K1 to K5.
+//! The faults of an applier, K1 to K5 and K8.
 
 ghost use Rattle.std.specs.Prelude.{◌≡◌};
 ghost use Rattle.client.specs.declared.fault.ClientFault.TheVariants.{Memory};
@@ -19,6 +19,9 @@ pub enum ClientFault {
     Server,
     #[error("K5: out of memory")]
     Memory,
+    /// A follower has K6 and K7 besides.
+    #[error("K8: a commit does not end past its start")]
+    CommitEnd,
 }
 
 impl From<AllocError> for ClientFault {

@@ -208,6 +208,9 @@ impl Progress {
         if commit.position != start {
             return Err(ClientFault::Order);
         }
+        if commit.end <= start {
+            return Err(ClientFault::CommitEnd);
+        }
         self.applied.reserve(1)?;
         match self.half.take() {
             Some(half) if self.position <= start => {

@@ -7,7 +7,7 @@ use Rattle.pgoutput.specs.Items.{Item, bytes_of_items, FitItems}
 use Rattle.client.specs.declared.fault.ClientFault.{ClientFault}
 use Rattle.client.specs.Subscriber.{Subscriber, subscriber_at_rest}
 use Rattle.client.specs.Taking.{ApplierState, Reached, HasTaken, TakesFrom}
-use Rattle.client.specs.Law.{GainedAll}
+use Rattle.client.specs.Law.{AreForward, GainedAll}
 use Rattle.client.proofs.Laws.{follows_ok}
 use Rattle.client.proofs.Reaching.{reached_none, reached_on}
 use Rattle.follower.specs.Once.{EachOnce, Gains, applier_at_connection, applier_without_applied, before, with_printed}
@@ -76,17 +76,17 @@ keeps base text printed old (Prints ∷ deeds) new run are had =
     rw (← append_assoc printed old.subscriber.applied (printed_in run.0 deeds new run.2)) (keeps base text (printed ++ old.subscriber.applied) run.0 deeds new run.2 are next)
 
 -- what was taken of a stream has been gained
-all_gained : (base : Subscriber) (a : ApplierState) (text : List ℕ) → base ≡ subscriber_at_rest base.position base.applied → HasTaken base a text → (relation : ℕ → Relation) (items : List Item) (more : List ℕ) → FitItems relation items
+all_gained : (base : Subscriber) (a : ApplierState) (text : List ℕ) → base ≡ subscriber_at_rest base.position base.applied → HasTaken base a text → (relation : ℕ → Relation) (items : List Item) (more : List ℕ) → FitItems relation items → AreForward items
     → text ++ more ≡ bytes_of_items relation [] items → GainedAll relation base text items a.subscriber
-all_gained base a text rests had relation items more fit e =
+all_gained base a text rests had relation items more fit forward e =
     let still : Reached a.subscriber (a.unread ++ []) a.subscriber a.unread = subst (λ (l : List ℕ). Reached a.subscriber l a.subscriber a.unread) (sym (append-nil a.unread)) (reached_none a.subscriber a.unread) in
-    let ends = follows_ok a a [] still had.waits had.sound relation base text more items rests had fit (ap (λ (l : List ℕ). l ++ more) (append-nil text) ∙ e) in
+    let ends = follows_ok a a [] still had.waits had.sound relation base text more items rests had fit forward (ap (λ (l : List ℕ). l ++ more) (append-nil text) ∙ e) in
     subst (λ (l : List ℕ). GainedAll relation base l items a.subscriber) (append-nil text) ends.1
 
 pub none_lost : (printed : List Published) (old : ApplierState) (deeds : List Deed) (now : ApplierState) (run : Runs (applier_at_connection old) deeds now) (relation : ℕ → Relation) (items : List Item) (more : List ℕ)
-    → AreReceived deeds → FitItems relation items → received_bytes deeds ++ more ≡ bytes_of_items relation [] items
+    → AreReceived deeds → FitItems relation items → AreForward items → received_bytes deeds ++ more ≡ bytes_of_items relation [] items
     → GainedAll relation (before printed (applier_at_connection old).subscriber) (received_bytes deeds) items (before (printed ++ printed_in (applier_at_connection old) deeds now run) now.subscriber)
-none_lost printed old deeds now run relation items more are fit e =
+none_lost printed old deeds now run relation items more are fit forward e =
     let base = before printed (applier_at_connection old).subscriber in
     let waits : HasTaken base (with_printed printed (applier_at_connection old)) [] = record { reached = reached_none base []; waits = refl; sound = refl } in
-    all_gained base (with_printed (printed ++ printed_in (applier_at_connection old) deeds now run) now) (received_bytes deeds) refl (keeps base [] printed (applier_at_connection old) deeds now run are waits) relation items more fit e
+    all_gained base (with_printed (printed ++ printed_in (applier_at_connection old) deeds now run) now) (received_bytes deeds) refl (keeps base [] printed (applier_at_connection old) deeds now run are waits) relation items more fit forward e

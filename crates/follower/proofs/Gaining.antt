@@ -1,7 +1,8 @@
 -- What a subscriber gains by the bytes that it takes, each transaction once.
 use Rattle.std.proofs.Common.{◌≡◌, ℕ, ◌≤◌, Bool, true, false, cond, eqb, List, [], ◌∷◌, ◌++◌, Option, Some, None, Result, Ok, Err, refl, sym, ap, subst, ◌∙◌, append_assoc, arith}
-use Rattle.std.specs.Prelude.{max, nat_le}
+use Rattle.std.specs.Prelude.{◌<◌, max, nat_le, nat_lt}
 use Rattle.std.proofs.lemmas.Bool.{leb-true}
+use Rattle.std.proofs.lemmas.Bool.Decides.{nat_tests}
 use Rattle.std.proofs.lemmas.List.{append-nil}
 use Rattle.pqformat.specs.Steps.{◌>>=◌}
 use Rattle.pqformat.proofs.Codec.{ok_is}
@@ -17,7 +18,7 @@ use Rattle.pgoutput.specs.declared.word.Keepalive.{Keepalive}
 use Rattle.pgoutput.specs.declared.published.Published.{Published}
 use Rattle.client.specs.declared.fault.ClientFault.{ClientFault}
 use Rattle.client.specs.declared.fault.ClientFault.TheVariants as faults
-use Rattle.client.specs.Subscriber.{Subscriber, HalfTransaction, judgement_of_change, after_begin, tables_with_relation, after_relation, after_change, after_commit, after_transaction, after_keepalive, with_change, note_of, after_note, after_logical_message, transaction_of, after_message, after_word, after_words}
+use Rattle.client.specs.Subscriber.{Subscriber, HalfTransaction, judgement_of_change, after_begin, tables_with_relation, after_relation, after_change, after_commit, after_end, after_transaction, after_keepalive, with_change, note_of, after_note, after_logical_message, transaction_of, after_message, after_word, after_words}
 use Rattle.client.specs.Taking.{ApplierState, Reached, Takes, TakesFrom}
 use Rattle.follower.specs.Once.{EachOnce, Gains}
 
@@ -25,11 +26,11 @@ use Rattle.follower.specs.Once.{EachOnce, Gains}
 
 once_from : (from mid to : ℕ) (ts : List Published) → from ≤ mid → EachOnce mid ts to → EachOnce from ts to
 once_from from mid to [] le once = omega (arith, le, once)
-once_from from mid to (t ∷ ts) le once = (omega (arith, le, once.0), once_from (max from t.end) (max mid t.end) to ts (omega (arith, le)) once.1)
+once_from from mid to (t ∷ ts) le once = (omega (arith, le, once.0), once.1, once_from (max from t.end) (max mid t.end) to ts (omega (arith, le)) once.2)
 
 once_then : (from mid to : ℕ) (ts us : List Published) → EachOnce from ts mid → EachOnce mid us to → EachOnce from (ts ++ us) to
 once_then from mid to [] us first then = once_from from mid to us first then
-once_then from mid to (t ∷ ts) us first then = (first.0, once_then (max from t.end) mid to ts us first.1 then)
+once_then from mid to (t ∷ ts) us first then = (first.0, first.1, once_then (max from t.end) mid to ts us first.2 then)
 
 pub gains_none : (s t : Subscriber) → t.applied ≡ s.applied → s.position ≤ t.position → Gains s t
 gains_none s t same more = record { fresh = []; applied = same ∙ sym (append-nil s.applied); once = more }
@@ -76,22 +77,26 @@ gains_change (Some half) s t position m is = by_judging (judgement_of_change s.t
     by_judging (Ok u) is = gains_same s with t is refl (omega arith)
     by_judging (Err e) is = absurd cc
 
-gains_finished : (s : Subscriber) (half : HalfTransaction) (m : Commit) → Gains s (after_transaction s half m)
-gains_finished s half m = by_test (nat_le s.position half.begin.position) refl
+gains_finished : (s : Subscriber) (half : HalfTransaction) (m : Commit) → half.begin.position < m.end → Gains s (after_transaction s half m)
+gains_finished s half m forward = by_test (nat_le s.position half.begin.position) refl
   where
     one : List Published
     one = transaction_of half m ∷ []
 
     by_test : (b : Bool) → nat_le s.position half.begin.position ≡ b → Gains s (record s { half = None; position = max s.position m.end; applied = s.applied ++ cond b one [] })
-    by_test true is = record { fresh = one; applied = refl; once = (leb-true s.position half.begin.position is, omega arith) }
+    by_test true is = record { fresh = one; applied = refl; once = (leb-true s.position half.begin.position is, λ _. forward, omega arith) }
     by_test false is = record { fresh = []; applied = refl; once = omega arith }
 
 gains_commit : (half : Option HalfTransaction) (s t : Subscriber) (m : Commit) → after_commit half s m ≡ Ok t → Gains s t
 gains_commit None s t m is = absurd cc
 gains_commit (Some half) s t m is = by_test (eqb m.position half.begin.position) is
   where
-    by_test : (b : Bool) → cond b (Ok (after_transaction s half m)) (Err faults.Order) ≡ Ok t → Gains s t
-    by_test true is = subst (λ (v : Subscriber). Gains s v) (ok_is ClientFault (after_transaction s half m) t is) (gains_finished s half m)
+    by_end : (b : Bool) → nat_lt half.begin.position m.end ≡ b → cond b (Ok (after_transaction s half m)) (Err faults.CommitEnd) ≡ Ok t → Gains s t
+    by_end true forward is = subst (λ (v : Subscriber). Gains s v) (ok_is ClientFault (after_transaction s half m) t is) (gains_finished s half m (grind (arith, nat_tests, forward)))
+    by_end false forward is = absurd cc
+
+    by_test : (b : Bool) → cond b (after_end s half m) (Err faults.Order) ≡ Ok t → Gains s t
+    by_test true is = by_end (nat_lt half.begin.position m.end) refl is
     by_test false is = absurd cc
 
 gains_note : (half : Option HalfTransaction) (s t : Subscriber) (end : ℕ) (m : Message) → after_note half s end m ≡ Ok t → Gains s t
@@ -104,7 +109,7 @@ gains_note None s t end m is = subst (λ (v : Subscriber). Gains s v) (ok_is Cli
     with b = record s { position = max s.position end; applied = s.applied ++ cond b one [] }
 
     by_test : (b : Bool) → nat_le s.position m.position ≡ b → Gains s (with b)
-    by_test true is = record { fresh = one; applied = refl; once = (leb-true s.position m.position is, omega arith) }
+    by_test true is = record { fresh = one; applied = refl; once = (leb-true s.position m.position is, λ kind. (let never : true ≡ false = kind in absurd cc), omega arith) }
     by_test false is = record { fresh = []; applied = refl; once = omega arith }
 gains_note (Some half) s t end m is = absurd cc
 

@@ -1,6 +1,6 @@
 -- What was printed stands before what a subscriber has applied, and it goes on as it would with that.
 use Rattle.std.proofs.Common.{◌≡◌, ℕ, Bool, true, false, cond, eqb, List, [], ◌∷◌, ◌++◌, Option, Some, None, Result, Ok, Err, refl, ap, ◌∙◌, append_assoc}
-use Rattle.std.specs.Prelude.{max, nat_le}
+use Rattle.std.specs.Prelude.{max, nat_le, nat_lt}
 use Rattle.pqformat.specs.Steps.{◌>>=◌}
 use Rattle.pgoutput.specs.declared.begin.Begin.{Begin}
 use Rattle.pgoutput.specs.declared.commit.Commit.{Commit}
@@ -14,7 +14,7 @@ use Rattle.pgoutput.specs.declared.word.Keepalive.{Keepalive}
 use Rattle.pgoutput.specs.declared.published.Published.{Published}
 use Rattle.client.specs.declared.fault.ClientFault.{ClientFault}
 use Rattle.client.specs.declared.fault.ClientFault.TheVariants as faults
-use Rattle.client.specs.Subscriber.{Subscriber, HalfTransaction, judgement_of_change, after_begin, after_relation, after_change, after_commit, after_transaction, after_keepalive, with_change, note_of, after_note, after_logical_message, transaction_of, after_message, after_word, after_words}
+use Rattle.client.specs.Subscriber.{Subscriber, HalfTransaction, judgement_of_change, after_begin, after_relation, after_change, after_commit, after_end, after_transaction, after_keepalive, with_change, note_of, after_note, after_logical_message, transaction_of, after_message, after_word, after_words}
 use Rattle.client.specs.Taking.{ApplierState, Reached, Stops, Takes, TakesFrom}
 use Rattle.client.specs.Law.{Follows}
 use Rattle.client.proofs.Laws.{follows_ok, follows_err}
@@ -56,8 +56,12 @@ commit_before printed (Some half) s m = by_test (eqb m.position half.begin.posit
     gained_now : List Published
     gained_now = cond (nat_le s.position half.begin.position) (transaction_of half m ∷ []) []
 
-    by_test : (b : Bool) → cond b (Ok (after_transaction (before printed s) half m)) (Err faults.Order) ≡ after printed (cond b (Ok (after_transaction s half m)) (Err faults.Order))
-    by_test true = ap (λ (l : List Published). Ok (record s { half = None; position = max s.position m.end; applied = l })) (append_assoc printed s.applied gained_now)
+    by_end : (b : Bool) → cond b (Ok (after_transaction (before printed s) half m)) (Err faults.CommitEnd) ≡ after printed (cond b (Ok (after_transaction s half m)) (Err faults.CommitEnd))
+    by_end true = ap (λ (l : List Published). Ok (record s { half = None; position = max s.position m.end; applied = l })) (append_assoc printed s.applied gained_now)
+    by_end false = refl
+
+    by_test : (b : Bool) → cond b (after_end (before printed s) half m) (Err faults.Order) ≡ after printed (cond b (after_end s half m) (Err faults.Order))
+    by_test true = by_end (nat_lt half.begin.position m.end)
     by_test false = refl
 
 note_before : (printed : List Published) (half : Option HalfTransaction) (s : Subscriber) (end : ℕ) (m : Message) → after_note half (before printed s) end m ≡ after printed (after_note half s end m)
@@ -108,6 +112,7 @@ reached_before printed s bytes t rest r = record {
 stops_before : (printed : List Published) (e : ClientFault) (s : Subscriber) (rest : List ℕ) → Stops e s rest → Stops e (before printed s) rest
 stops_before printed faults.Order s rest h = (h.0, h.1, h.2, h.3, h.4, word_before printed s h.0 ∙ ap (after printed) h.5)
 stops_before printed faults.UnknownRelation s rest h = (h.0, h.1, h.2, h.3, h.4, word_before printed s h.0 ∙ ap (after printed) h.5)
+stops_before printed faults.CommitEnd s rest h = (h.0, h.1, h.2, h.3, h.4, word_before printed s h.0 ∙ ap (after printed) h.5)
 stops_before printed faults.Frame s rest h = h
 stops_before printed faults.Server s rest h = h
 stops_before printed faults.Memory s rest h = h
@@ -138,7 +143,7 @@ follows_takes : (old new : ApplierState) (bytes : List ℕ) (result : Result (Un
 follows_takes old new bytes result takes = by_fault old.fault refl result takes
   where
     by_fault : (fault : Option ClientFault) → old.fault ≡ fault → (result : Result (Unit {0}) ClientFault) → TakesFrom fault old new bytes result → Follows old new bytes result
-    by_fault (Some fault) is result takes = λ relation base text more items rests had fit e. let sound : old.fault ≡ None = had.sound in absurd cc
+    by_fault (Some fault) is result takes = λ relation base text more items rests had fit forward e. let sound : old.fault ≡ None = had.sound in absurd cc
     by_fault None is (Ok u) takes = follows_ok old new bytes takes.reached takes.waits takes.sound
     by_fault None is (Err e) takes = follows_err old new bytes e takes.stops
 

@@ -1,14 +1,15 @@
 -- Each transaction once: what a follower gains over its connections, printed and not yet printed.
 use Rattle.std.specs.Prelude.{◌≡◌, ℕ, ◌≤◌, List, [], ◌∷◌, ◌++◌, max, None}
 use Rattle.pgoutput.specs.declared.published.Published.{Published}
+use Rattle.client.specs.Law.{IsForward}
 use Rattle.client.specs.Subscriber.{Subscriber, subscriber_at_rest}
 use Rattle.client.specs.Taking.{ApplierState}
 
 -- Between two positions these transactions come one behind the other: each commit record starts where the one before it ends, or
--- later. So none comes twice.
+-- later, and ends past where it starts. So none comes twice.
 abbrev pub EachOnce : ℕ → List Published → ℕ → Type 0
 EachOnce from [] to = from ≤ to
-EachOnce from (t ∷ ts) to = (from ≤ t.start) × EachOnce (max from t.end) ts to
+EachOnce from (t ∷ ts) to = (from ≤ t.start) × IsForward t × EachOnce (max from t.end) ts to
 
 -- What a subscriber has gained: from its old position on and up to its new one, each once.
 pub record Gains (old new : Subscriber) : Type 0 where

@@ -1,4 +1,4 @@
-//! Why a stream was not followed to its end, K1 to K7.
+//! Why a stream was not followed to its end, K1 to K8.
 
 use client::ClientFault;
 use frames::{ErrorResponse, FrameFault};
@@ -65,7 +65,7 @@ fn beginning(text: &str, most: usize) -> &str {
 /// Why a stream was not followed to its end.
 #[derive(Debug, Drop, Error)]
 pub enum FollowFault {
-    /// K1 to K3, and K5. K4 where the server gave no reason.
+    /// K1 to K3, K5, and K8. K4 where the server gave no reason.
     #[error("{0}")]
     Client(ClientFault),
     /// K4.

@@ -21,7 +21,7 @@ use std::sync::Wait;
 /// behind each message outside of a transaction, it tells the server its position, and once it has as many of these as it should it
 /// ends the stream, and reads no more. Then it prints the last line of the form, if it has one.
 ///
-/// K4 is what the server refused. K1 to K3 and K5 are those of an applier. K6 comes where the connection or the output failed,
+/// K4 is what the server refused. K1 to K3, K5 and K8 are those of an applier. K6 comes where the connection or the output failed,
 /// where the connection ended early, or where a command with these names is too long to be sent.
 pub fn follow<R: Wait, S: Read + Write, W: Write>(
     rt: &R,

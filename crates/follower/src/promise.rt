@@ -5,7 +5,7 @@ ghost use Rattle.pgoutput.specs.declared.relation.Relation.{Relation};
 ghost use Rattle.pgoutput.specs.declared.published.Published.{Published};
 ghost use Rattle.pgoutput.specs.Items.{Item, bytes_of_items, FitItems};
 ghost use Rattle.client.specs.Taking.{ApplierState};
-ghost use Rattle.client.specs.Law.{GainedAll};
+ghost use Rattle.client.specs.Law.{AreForward, GainedAll};
 ghost use Rattle.follower.specs.Once.{EachOnce, applier_at_connection, before};
 ghost use Rattle.follower.specs.Promise.{Deed, Runs, begun_at, printed_in, AreReceived, received_bytes};
 
@@ -18,14 +18,14 @@ pub fn each_transaction_is_printed_once()
         now.subscriber.position }
 {}
 
-/// Of a connection whose bytes begin a stream, all that stands whole in them was added to what was printed before or waits for it,
-/// but for the transactions that stood below the position already.
+/// Of a connection whose bytes begin a stream of transactions that end past their starts, all that stands whole in them was added
+/// to what was printed before or waits for it, but for the transactions that stood below the position already.
 pub fn no_transaction_is_lost()
     ensures { (printed : List Published) (old : ApplierState) (deeds : List Deed)
         (now : ApplierState) (run : Runs (applier_at_connection old) deeds now)
         (relation : ℕ → Relation)
         (items : List Item) (more : List ℕ) →
-        AreReceived deeds → FitItems relation items →
+        AreReceived deeds → FitItems relation items → AreForward items →
         received_bytes deeds ++ more ≡ bytes_of_items relation [] items →
         GainedAll relation (before printed (applier_at_connection old).subscriber)
         (received_bytes deeds) items

@@ -22,6 +22,7 @@ subscriber_code clients.Order = codes "K2"
 subscriber_code clients.UnknownRelation = codes "K3"
 subscriber_code clients.Server = codes "K4"
 subscriber_code clients.Memory = codes "K5"
+subscriber_code clients.CommitEnd = codes "K8"
 
 -- the code of a refusal; an event that was done has none
 abbrev pub answer_code : Answer → Option (List ℕ)

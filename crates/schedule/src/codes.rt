@@ -27,6 +27,7 @@ impl Answer {
             Answer::Subscriber(ClientFault::UnknownRelation) => Some("K3"),
             Answer::Subscriber(ClientFault::Server) => Some("K4"),
             Answer::Subscriber(ClientFault::Memory) => Some("K5"),
+            Answer::Subscriber(ClientFault::CommitEnd) => Some("K8"),
         }
     }
 }

@@ -1,11 +1,12 @@
 -- A subscriber and the open start that feeds it: what was delivered, what is on its way, and what it has told.
-use Rattle.std.proofs.Common.{◌≡◌, ◌≤◌, ◌+◌, ℕ, max, min, true, List, [], ◌++◌, length, take, drop, Option, Some, None, Result, Ok, Err, refl, sym, ap, subst, ◌∙◌, append_assoc, arith}
+use Rattle.std.proofs.Common.{◌≡◌, ◌≤◌, ◌+◌, ℕ, max, min, List, [], ◌++◌, length, take, drop, Option, Some, None, Result, Ok, Err, refl, sym, ap, subst, ◌∙◌, append_assoc, arith}
 use Rattle.std.specs.Prelude.{◌||◌, Bool, nat_lt}
 use Rattle.std.specs.List.{AllByRecursion}
 use Rattle.std.proofs.Math.Seq.{take-add}
 use Rattle.std.proofs.lemmas.List.{length-append, length-drop, length-take, take-append-drop, take-append-le, take_min}
 use Rattle.wal.specs.declared.record.Record.{Record}
-use Rattle.wal.specs.Log.{IsWellFormedLog}
+use Rattle.wal.specs.declared.record.TheConstants.{FIRST_POSITION}
+use Rattle.wal.specs.Log.{IsWellFormedLog, end_of}
 use Rattle.wal.proofs.Laws.{all_when}
 use Rattle.publication.specs.Publications.{PublicationSet}
 use Rattle.publication.specs.Selection.{relation}
@@ -13,6 +14,8 @@ use Rattle.copyboth.specs.declared.status.Status.{Status}
 use Rattle.pgoutput.specs.declared.relation.Relation.{Relation}
 use Rattle.pgoutput.specs.declared.published.Published.{Published}
 use Rattle.pgoutput.specs.Items.{Item, bytes_of_items}
+use Rattle.pgoutput.specs.Stream.{IsStream}
+use Rattle.walsender.specs.Published.{published_transactions}
 use Rattle.client.specs.declared.fault.ClientFault.{ClientFault}
 use Rattle.client.specs.Subscriber.{Subscriber, subscriber_at_rest}
 use Rattle.client.specs.Taking.{ApplierState, HasTaken, Takes, TakesFrom}
@@ -21,11 +24,12 @@ use Rattle.client.proofs.Reaching.{reached_none}
 use Rattle.schedule.specs.declared.answer.Answer.{Answer}
 use Rattle.schedule.specs.declared.answer.Answer.TheVariants as answers
 use Rattle.world.specs.Start.{StartState}
+use Rattle.world.specs.Acting.{read_by}
 use Rattle.world.specs.State.{SubscriberState, in_pipe}
 use Rattle.world.specs.Law.{IsExact}
 use Rattle.world.specs.Delivering.{AnswersTo, Gets}
 use Rattle.world.proofs.Raising.{takes_follows, takes_raises}
-use Rattle.world.proofs.Settled.{IsSettled, settled_by, settled_grown}
+use Rattle.world.proofs.Settled.{IsSettled, items_forward, settled_by}
 
 -- without a start nothing is on its way
 pub record IsAtRest (sub : SubscriberState) : Type 0 where
@@ -33,6 +37,27 @@ pub record IsAtRest (sub : SubscriberState) : Type 0 where
   pub slot : sub.slot ≡ None
   pub delivered : sub.delivered ≡ 0
   pub back : sub.back ≡ []
+
+-- What a start has produced begins a stream encoding of what it publishes of the log, read up to some position.
+pub record BeginsIn (log : List Record) (l : StartState) : Type 0 where
+  pub position : ℕ
+  pub rest : List ℕ
+  pub at : position ≡ end_of FIRST_POSITION (read_by position log)
+  pub whole : IsStream (relation l.selection) (l.produced ++ rest) (published_transactions l.selection (read_by position log) l.start) position
+
+pub exact_begins : (log : List Record) (l : StartState) → IsExact log l → BeginsIn log l
+exact_begins log l exact = record { position = l.position; rest = exact.begins.rest; at = exact.reads; whole = exact.begins.whole }
+
+-- and so does less of it
+pub less_begins : (log : List Record) (old new : StartState) (more : List ℕ) → new.selection ≡ old.selection → new.start ≡ old.start → new.produced ≡ old.produced ++ more → BeginsIn log new → BeginsIn log old
+less_begins log old new more selection_is start_is produced_is begins =
+    let bytes : new.produced ++ begins.rest ≡ old.produced ++ (more ++ begins.rest) = ap (λ l. l ++ begins.rest) produced_is ∙ append_assoc old.produced more begins.rest in
+    record {
+      position = begins.position;
+      rest = more ++ begins.rest;
+      at = begins.at;
+      whole = rw (← selection_is, ← start_is, ← bytes) begins.whole;
+    }
 
 -- Its start began where it stood, or earlier. What was delivered since it has taken, up to a fault; what it has told on the way back is
 -- no more than its position.
@@ -48,23 +73,6 @@ pub record IsFed (log : List Record) (from : ℕ) (selection : PublicationSet) (
   pub within : sub.delivered ≤ length l.produced
   pub taken : sub.applier.fault ≡ None → HasTaken base sub.applier (take sub.delivered l.produced)
   pub back : AllByRecursion (λ (t : Status). t.flushed ≤ sub.applier.subscriber.position) sub.back
-
--- ---- The log grows.
-
-pub fed_grown : (log more : List Record) (from : ℕ) (selection : PublicationSet) (s : List ℕ) (begun : Option (ℕ × List Published)) (l : StartState) (sub : SubscriberState) → IsWellFormedLog (log ++ more) → IsFed log from selection s begun l sub → IsFed (log ++ more) from selection s begun l sub
-fed_grown log more from selection s begun l sub good fed = record {
-  base = fed.base;
-  stood = fed.stood;
-  rests = fed.rests;
-  settled = settled_grown log more from selection fed.base good fed.settled;
-  later = fed.later;
-  asked = fed.asked;
-  selects = fed.selects;
-  streams = fed.streams;
-  within = fed.within;
-  taken = fed.taken;
-  back = fed.back;
-}
 
 -- ---- The start produces more.
 
@@ -140,23 +148,24 @@ pub record IsDelivered (log : List Record) (from : ℕ) (selection : Publication
   pub fed : IsFed log from selection s begun l new
   pub raised : old.applier.subscriber.position ≤ new.applier.subscriber.position
 
-delivered_sound : (log : List Record) (from : ℕ) (selection : PublicationSet) (s : List ℕ) (begun : Option (ℕ × List Published)) (l : StartState) (old : SubscriberState) (after : ApplierState) (n : ℕ) (taken_once : Bool) (r : Result (Unit {0}) ClientFault) → IsWellFormedLog log → IsExact log l → l.is_open ≡ true
+delivered_sound : (log : List Record) (from : ℕ) (selection : PublicationSet) (s : List ℕ) (begun : Option (ℕ × List Published)) (l : StartState) (old : SubscriberState) (after : ApplierState) (n : ℕ) (taken_once : Bool) (r : Result (Unit {0}) ClientFault) → IsWellFormedLog log → BeginsIn log l
     → IsFed log from selection s begun l old → old.applier.fault ≡ None → Takes old.applier after (take n (in_pipe l old)) r
     → IsDelivered log from selection s begun l old (record old { applier = after; delivered = old.delivered + length (take n (in_pipe l old)); has_taken = taken_once })
-delivered_sound log from selection s begun l old after n taken_once r good exact opened fed sound takes =
+delivered_sound log from selection s begun l old after n taken_once r good begins fed sound takes =
     let d = old.delivered in
     let p = l.produced in
     let bytes = take n (drop d p) in
     let all = take d p ++ bytes in
-    let more = drop (d + length bytes) p ++ l.held in
-    let stream = exact.whole opened in
+    let more = drop (d + length bytes) p ++ begins.rest in
+    let stream = begins.whole in
     let text : all ++ more ≡ bytes_of_items (relation l.selection) [] stream.items =
-    ap (λ x. x ++ more) (next_taken d n p) ∙ sym (append_assoc (take (d + length bytes) p) (drop (d + length bytes) p) l.held) ∙ ap (λ x. x ++ l.held) (take-append-drop (d + length bytes) p) ∙ stream.spells in
-    let ends = takes_follows old.applier after bytes r sound takes (relation l.selection) fed.base (take d p) more stream.items fed.rests (fed.taken sound) stream.fits text in
+    ap (λ x. x ++ more) (next_taken d n p) ∙ sym (append_assoc (take (d + length bytes) p) (drop (d + length bytes) p) begins.rest) ∙ ap (λ x. x ++ begins.rest) (take-append-drop (d + length bytes) p) ∙ stream.spells in
+    let forward = items_forward l.selection log l.start begins.position stream.items good stream.sends in
+    let ends = takes_follows old.applier after bytes r sound takes (relation l.selection) fed.base (take d p) more stream.items fed.rests (fed.taken sound) stream.fits forward text in
     let plain : TakesFrom None old.applier after bytes r = (let P : Option ClientFault → Type 0 = λ f. TakesFrom f old.applier after bytes r in subst P sound takes) in
     let gained = gains_of (relation l.selection) fed.base after all stream.items r ends in
     let base_settled : IsSettled log from l.selection fed.base = subst (λ (x : PublicationSet). IsSettled log from x fed.base) (sym fed.selects) fed.settled in
-    let settled = settled_by l.selection log from l.start l.position fed.base after.subscriber all stream.items good base_settled fed.later fed.asked (record { at = exact.reads; sends = stream.sends; safe = stream.safe }) gained in
+    let settled = settled_by l.selection log from l.start begins.position fed.base after.subscriber all stream.items good base_settled fed.later fed.asked (record { at = begins.at; sends = stream.sends; safe = stream.safe }) gained in
     let raised = takes_raises old.applier after bytes r takes in
     record {
       settled = subst (λ (x : PublicationSet). IsSettled log from x after.subscriber) fed.selects settled;
@@ -203,14 +212,14 @@ delivered_stopped log from selection s begun l old after n taken_once fault r se
       raised = omega (arith, ap (λ (a : ApplierState). a.subscriber.position) same);
     }
 
-pub delivered : (log : List Record) (from : ℕ) (selection : PublicationSet) (s : List ℕ) (begun : Option (ℕ × List Published)) (l : StartState) (old new : SubscriberState) (n : ℕ) (a : Answer) → IsWellFormedLog log → IsExact log l → l.is_open ≡ true
+pub delivered : (log : List Record) (from : ℕ) (selection : PublicationSet) (s : List ℕ) (begun : Option (ℕ × List Published)) (l : StartState) (old new : SubscriberState) (n : ℕ) (a : Answer) → IsWellFormedLog log → BeginsIn log l
     → IsSettled log from selection old.applier.subscriber → IsFed log from selection s begun l old → Gets (take n (in_pipe l old)) old a new → IsDelivered log from selection s begun l old new
-delivered log from selection s begun l old new n a good exact opened settled fed gets =
+delivered log from selection s begun l old new n a good begins settled fed gets =
     let took = answered (take n (in_pipe l old)) old.applier new.applier a gets.answers in
     let Is : SubscriberState → Type 0 = λ x. IsDelivered log from selection s begun l old x in
     subst Is (sym gets.is) (by_fault old.applier.fault refl took.0 took.1)
   where
     by_fault : (fault : Option ClientFault) → old.applier.fault ≡ fault → (r : Result (Unit {0}) ClientFault) → Takes old.applier new.applier (take n (in_pipe l old)) r
         → IsDelivered log from selection s begun l old (record old { applier = new.applier; delivered = old.delivered + length (take n (in_pipe l old)); has_taken = (old.has_taken || nat_lt 0 (length (take n (in_pipe l old)))) })
-    by_fault None is r takes = delivered_sound log from selection s begun l old new.applier n _ r good exact opened fed is takes
+    by_fault None is r takes = delivered_sound log from selection s begun l old new.applier n _ r good begins fed is takes
     by_fault (Some fault) is r takes = delivered_stopped log from selection s begun l old new.applier n _ fault r settled fed is takes

@@ -47,14 +47,15 @@ IsMine log from selection s begun o (Some sub) = IsSettled log from selection su
 IsMine log from selection s begun None None = Unit {0}
 IsMine log from selection s begun (Some l) None = ⊥
 
-pub record IsOnce (c s : List ℕ) (wanted : StartOptions) (from : ℕ) (begun : Option (ℕ × List Published)) (w : WorldState) : Type 0 where
+-- The log is the one to which the whole run leads.
+pub record IsOnce (log : List Record) (c s : List ℕ) (wanted : StartOptions) (from : ℕ) (begun : Option (ℕ × List Published)) (w : WorldState) : Type 0 where
   pub confirmed : ℕ
   pub slot : confirmed_at s w.slots ≡ Some confirmed
   pub reaches : from ≤ confirmed
   pub within : confirmed ≤ max from (position_of c w)
   pub others : AllByRecursion (IsNotOn c s) w.subscribers
   pub alone : IsAlone c w.starts
-  pub mine : IsMine w.publisher.log from (wanted_of wanted w.publications) s begun (open_start c w.starts) (subscriber_of c w.subscribers)
+  pub mine : IsMine log from (wanted_of wanted w.publications) s begun (open_start c w.starts) (subscriber_of c w.subscribers)
 
 -- as long as there is no such slot, c has no start and no subscriber
 pub record IsBefore (c s : List ℕ) (w : WorldState) : Type 0 where
@@ -65,25 +66,24 @@ pub record IsBefore (c s : List ℕ) (w : WorldState) : Type 0 where
 
 -- ---- Another connection's line.
 
--- it leaves c's start and subscriber, the slot's position, and the log
+-- it leaves c's start and subscriber, and the slot's position
 pub record LeavesAlone (c s : List ℕ) (old new : WorldState) : Type 0 where
   pub publications : new.publications ≡ old.publications
-  pub publisher : new.publisher ≡ old.publisher
   pub confirmed : confirmed_at s new.slots ≡ confirmed_at s old.slots
   pub others : AllByRecursion (IsNotOn c s) new.subscribers
   pub alone : IsAlone c old.starts → IsAlone c new.starts
   pub started : open_start c new.starts ≡ open_start c old.starts
   pub known : subscriber_of c new.subscribers ≡ subscriber_of c old.subscribers
 
-pub once_left : (c s : List ℕ) (wanted : StartOptions) (from : ℕ) (begun : Option (ℕ × List Published)) (old new : WorldState) → IsOnce c s wanted from begun old → LeavesAlone c s old new → IsOnce c s wanted from begun new
-once_left c s wanted from begun old new once left = record {
+pub once_left : (log : List Record) (c s : List ℕ) (wanted : StartOptions) (from : ℕ) (begun : Option (ℕ × List Published)) (old new : WorldState) → IsOnce log c s wanted from begun old → LeavesAlone c s old new → IsOnce log c s wanted from begun new
+once_left log c s wanted from begun old new once left = record {
   confirmed = once.confirmed;
   slot = left.confirmed ∙ once.slot;
   reaches = once.reaches;
   within = omega (arith, once.within, ap position_in left.known);
   others = left.others;
   alone = left.alone once.alone;
-  mine = rw (left.started, left.known, left.publisher, left.publications) once.mine;
+  mine = rw (left.started, left.known, left.publications) once.mine;
 }
 
 pub before_left : (c s : List ℕ) (old new : WorldState) → IsBefore c s old → LeavesAlone c s old new → IsBefore c s new
@@ -166,7 +166,7 @@ started_or P done other c slot position wanted old (answers.Sender fault) new sa
 started_or P done other c slot position wanted old (answers.Subscriber fault) new same begins step = subst (P other) (sym step.1) same
 
 left_as_it_was : (c s : List ℕ) (w : WorldState) → AllByRecursion (IsNotOn c s) w.subscribers → LeavesAlone c s w w
-left_as_it_was c s w others = record { publications = refl; publisher = refl; confirmed = refl; others = others; alone = λ alone. alone; started = refl; known = refl }
+left_as_it_was c s w others = record { publications = refl; confirmed = refl; others = others; alone = λ alone. alone; started = refl; known = refl }
 
 joined_other : (c s d : List ℕ) (slot : Option (List ℕ)) (ss : List SubscriberState) → bytes_eq d c ≡ false → (slot ≡ Some s → ⊥) → AllByRecursion (IsNotOn c s) ss
     → AllByRecursion (IsNotOn c s) (with_one_for d slot ss) × (subscriber_of c (with_one_for d slot ss) ≡ subscriber_of c ss)
@@ -185,7 +185,6 @@ other_started c s d slot position wanted old other apart all =
     let not_open = look.not_open_for c d start other refl in
     record {
       publications = refl;
-      publisher = refl;
       confirmed = taken_same s slot old.slots;
       others = joined.0;
       alone = λ alone. look.alone_other_behind c old.starts start not_open alone;
@@ -222,7 +221,6 @@ other_acts c s d action old a new other all step =
     let P : WorldState → Type 0 = λ w. LeavesAlone c s old w in
     subst P (sym step.is) (record {
       publications = refl;
-      publisher = refl;
       confirmed = same_confirmed s d action old.subscribers old.slots;
       others = after.0;
       alone = λ alone. look.alone_other c d old.starts step.after other of alone;
@@ -235,7 +233,7 @@ other_changes : (c s d : List ℕ) (slots : SlotsState) (old : WorldState) (befo
     → confirmed_at s slots ≡ confirmed_at s old.slots → LeavesAlone c s old (record old { slots = slots; subscribers = with_subscriber d after old.subscribers })
 other_changes c s d slots old before after other all known named slot confirmed =
     let changed = other_subscriber c s d old.subscribers before after other all known named (λ on. sym slot ∙ on) in
-    record { publications = refl; publisher = refl; confirmed = confirmed; others = changed.0; alone = λ alone. alone; started = refl; known = changed.1 }
+    record { publications = refl; confirmed = confirmed; others = changed.0; alone = λ alone. alone; started = refl; known = changed.1 }
 
 -- a slot that isn't this one is confirmed
 not_confirmed : (s : List ℕ) (slot : Option (List ℕ)) (by : ℕ) (slots : SlotsState) → (slot ≡ Some s → ⊥) → confirmed_at s (slots_after_confirming slot by slots) ≡ confirmed_at s slots

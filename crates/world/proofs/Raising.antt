@@ -1,6 +1,6 @@
 -- A subscriber's position never goes back, whatever it takes.
 use Rattle.std.proofs.Common.{◌≡◌, ◌≤◌, ℕ, max, Bool, true, false, cond, eqb, List, [], ◌∷◌, ◌++◌, Option, Some, None, Result, Ok, Err, refl, ap, subst, arith}
-use Rattle.std.specs.Prelude.{nat_le}
+use Rattle.std.specs.Prelude.{nat_le, nat_lt}
 use Rattle.pqformat.specs.Steps.{◌>>=◌}
 use Rattle.pqformat.proofs.Codec.{ok_is}
 use Rattle.pgoutput.specs.declared.begin.Begin.{Begin}
@@ -13,8 +13,8 @@ use Rattle.pgoutput.specs.declared.word.Word.{Word}
 use Rattle.pgoutput.specs.declared.word.Word.TheVariants as words
 use Rattle.pgoutput.specs.declared.word.Keepalive.{Keepalive}
 use Rattle.client.specs.declared.fault.ClientFault.{ClientFault}
-use Rattle.client.specs.declared.fault.ClientFault.TheVariants.{Order}
-use Rattle.client.specs.Subscriber.{HalfTransaction, Subscriber, after_begin, after_change, after_commit, after_keepalive, after_logical_message, after_message, after_note, after_relation, after_transaction, after_word, after_words, judgement_of_change, note_of, tables_with_relation, with_change}
+use Rattle.client.specs.declared.fault.ClientFault.TheVariants.{CommitEnd, Order}
+use Rattle.client.specs.Subscriber.{HalfTransaction, Subscriber, after_begin, after_change, after_commit, after_end, after_keepalive, after_logical_message, after_message, after_note, after_relation, after_transaction, after_word, after_words, judgement_of_change, note_of, tables_with_relation, with_change}
 use Rattle.client.specs.Taking.{ApplierState, Reached, Takes, TakesFrom}
 use Rattle.client.specs.Law.{Follows}
 use Rattle.client.proofs.Laws.{follows_err, follows_ok}
@@ -42,8 +42,12 @@ committed_on : (half : Option HalfTransaction) (s t : Subscriber) (m : Commit) �
 committed_on None s t m is = absurd cc
 committed_on (Some half) s t m is = by_test (eqb m.position half.begin.position) is
   where
-    by_test : (b : Bool) → cond b (Ok (after_transaction s half m)) (Err Order) ≡ Ok t → s.position ≤ t.position
-    by_test true e = higher s (after_transaction s half m) t (omega arith) e
+    by_end : (b : Bool) → cond b (Ok (after_transaction s half m)) (Err CommitEnd) ≡ Ok t → s.position ≤ t.position
+    by_end true e = higher s (after_transaction s half m) t (omega arith) e
+    by_end false e = absurd cc
+
+    by_test : (b : Bool) → cond b (after_end s half m) (Err Order) ≡ Ok t → s.position ≤ t.position
+    by_test true e = by_end (nat_lt half.begin.position m.end) e
     by_test false e = absurd cc
 
 changed_on : (half : Option HalfTransaction) (s t : Subscriber) (position : ℕ) (m : Logical) → after_change half s position m ≡ Ok t → s.position ≤ t.position

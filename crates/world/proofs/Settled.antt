@@ -19,7 +19,7 @@ use Rattle.walsender.specs.Published.{published_from, published_transactions}
 use Rattle.walsender.proofs.Batches.{published_from-append}
 use Rattle.walsender.proofs.Sections.{all_back, all_front, follows_parts, starts_below}
 use Rattle.client.specs.Subscriber.{Subscriber}
-use Rattle.client.specs.Law.{Gained, gained_transactions, position_after}
+use Rattle.client.specs.Law.{AreForward, Gained, IsForward, gained_transactions, position_after}
 use Rattle.world.specs.Acting.{read_by}
 use Rattle.world.proofs.Orders.{InOrder, all_below, all_from, below, below-append, in_order, in_order_behind, in_order_within, late_all, late_part, none_below, parted}
 
@@ -108,18 +108,6 @@ behind_log selection from log more good =
     let Ends : ℕ → Type 0 = λ n. InOrder (end_of FIRST_POSITION log) n (published_from selection from log more) in
     subst Ends (sym (end_of-append FIRST_POSITION log more)) (in_order selection from (end_of FIRST_POSITION log) log more parts.1 (all_back IsSized log more good.sizes))
 
-pub settled_grown : (log more : List Record) (from : ℕ) (selection : PublicationSet) (s : Subscriber) → IsWellFormedLog (log ++ more) → IsSettled log from selection s → IsSettled (log ++ more) from selection s
-settled_grown log more from selection s good settled =
-    let later = published_from selection from log more in
-    let lates = all_from (end_of FIRST_POSITION log) (end_of FIRST_POSITION (log ++ more)) later (behind_log selection from log more good) in
-    let none : below s.position later ≡ [] =
-    none_below s.position later (all_when (λ (t : Published). end_of FIRST_POSITION log ≤ t.start) (λ (t : Published). s.position ≤ t.start) (λ t le. omega (arith, le, settled.within)) later lates) in
-    record {
-      within = omega (arith, settled.within, end_later log more good);
-      applied = settled.applied ∙ sym (ap (below s.position) (published_from-append selection from [] log more) ∙ below-append s.position (published_transactions selection log from) later
-          ∙ ap (λ l. below s.position (published_transactions selection log from) ++ l) none ∙ append-nil (below s.position (published_transactions selection log from)));
-    }
-
 -- a subscriber at 0 that has applied nothing
 pub all_from_zero : (ts : List Published) → AllByRecursion (λ (t : Published). 0 ≤ t.start) ts
 all_from_zero [] = tt
@@ -157,6 +145,20 @@ pub record IsReadTo (log : List Record) (selection : PublicationSet) (start posi
   pub at : position ≡ end_of FIRST_POSITION (read_by position log)
   pub sends : transactions_of items ≡ published_transactions selection (read_by position log) start
   pub safe : AreSafeKeepalives position items
+
+-- What a log publishes ends past where it starts.
+all_forward : (from to : ℕ) (ts : List Published) → InOrder from to ts → AllByRecursion IsForward ts
+all_forward from to [] order = tt
+all_forward from to (t ∷ ts) order = (λ _. order.1, all_forward t.end to ts order.2)
+
+pub items_forward : (selection : PublicationSet) (log : List Record) (start position : ℕ) (items : List Item) → IsWellFormedLog log → transactions_of items ≡ published_transactions selection (read_by position log) start → AreForward items
+items_forward selection log start position items good sends =
+    let front = read_by position log in
+    let rest = (read_front position log).0 in
+    let whole : IsWellFormedLog (front ++ rest) = subst IsWellFormedLog (read_front position log).1 good in
+    let goes = follows_parts FIRST_POSITION front rest whole.follows in
+    subst (AllByRecursion IsForward) (sym sends)
+    (all_forward FIRST_POSITION (end_of FIRST_POSITION front) (published_transactions selection front start) (in_order selection start FIRST_POSITION [] front goes.0 (all_front IsSized front rest whole.sizes)))
 
 -- A subscriber that was settled where the stream begins, or further, is settled by what it gains of the stream.
 pub settled_by : (selection : PublicationSet) (log : List Record) (from start position : ℕ) (base new : Subscriber) (bytes : List ℕ) (items : List Item) → IsWellFormedLog log → IsSettled log from selection base → from ≤ start → start ≤ max from base.position

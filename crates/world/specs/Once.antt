@@ -100,8 +100,8 @@ pub record AppliesOnce (c s : List ℕ) (wanted : StartOptions) (from : ℕ) (be
   pub confirmed : (n : ℕ) → confirmed_at s w.slots ≡ Some n → n ≤ max from (position_of c w)
   pub since : (l : StartState) (sub : SubscriberState) → open_start c w.starts ≡ Some l → subscriber_of c w.subscribers ≡ Some sub → sub.applier.fault ≡ None → (stood : ℕ × List Published) × (begun ≡ Some stood) × GainsSince stood l sub
 
--- A run leads there, by which this holds of each subscriber whose lines are fair.
+-- Whichever run leads there, this holds of each subscriber whose lines are fair in it.
 abbrev pub RunsOnce : WorldState → List Event → List Answer → WorldState → Type 0
 RunsOnce start es given w =
-    (run : IsRun start es given w)
-    × ((c s : List ℕ) (wanted : StartOptions) (from : ℕ) → IsFairRun c s wanted start es given w run → created_through s start es given w run None ≡ Some from → AppliesOnce c s wanted from (begun_through c start es given w run None) w)
+    (run : IsRun start es given w) (c s : List ℕ) (wanted : StartOptions) (from : ℕ)
+    → IsFairRun c s wanted start es given w run → created_through s start es given w run None ≡ Some from → AppliesOnce c s wanted from (begun_through c start es given w run None) w

@@ -1,14 +1,12 @@
 use Rattle.std.proofs.Common.{◌+◌, ◌∷◌, [], List, length, length-append, take, sym, ap, subst, arith}
 use Rattle.std.specs.Prelude.{Result}
 use Rattle.schedule.specs.declared.fault.WorldFault.{WorldFault as Fault}
-use Rattle.std.proofs.lemmas.List.{take_all}
 use Rattle.schedule.specs.declared.answer.Answer.{Answer}
-use Rattle.schedule.specs.declared.event.Event.{Event}
 use Rattle.world.specs.State.{WorldState, new_world}
 use Rattle.world.specs.Machine.{world_of}
 use Rattle.world.specs.Steps.{IsRun, StopsAt}
 use Rattle.world.proofs.Confirmed.{run_confirms}
-use Rattle.world.proofs.OnceRuns.{StandsOnce, runs_once, stands_once_on}
+use Rattle.world.proofs.OnceRuns.{runs_once}
 use Rattle.world.proofs.Runs.{headline, run_on, stops}
 use Rattle.world.proofs.world.World.run.Goals as goal
 
@@ -17,7 +15,6 @@ loop-event-preserved g c =
     let start = new_world c.args.config in
     let here = c.loop-event in
     let answer : Answer = c.in_default-step_in.field-0 in
-    let Stood : List Answer → Type 0 = λ l. StandsOnce start (take (here.event-index + 1) c.args.events.now) l (world_of c.step_in.new.machine) in
     let Runs : List Answer → Type 0 = λ l. IsRun start (take (here.event-index + 1) c.args.events.now) l (world_of c.step_in.new.machine) in
     record {
       machine = c.step_in.ensures.machine;
@@ -25,8 +22,6 @@ loop-event-preserved g c =
           here.invariant.run c.in_default-step_in.ensures.step);
       count = let longer = ap (λ (l : List Answer). length l) c.in_default-step_in.ensures.kept in omega (arith, longer, length-append here.answers.items (answer ∷ []), here.invariant.count);
       room = rw c.in_default-step_in.ensures.capacity here.invariant.room;
-      once = subst Stood (sym c.in_default-step_in.ensures.kept) (stands_once_on start (world_of here.machine) (world_of c.step_in.new.machine) c.args.events.now here.event-index here.answers.items c.event-item.result answer c.loop-event-test.true c.event-item.is
-          here.invariant.machine.good (headline here.machine here.invariant.machine) c.step_in.ensures.machine.good here.invariant.once c.in_default-step_in.ensures.step);
     }
 
 pub returns-in-Err-clause-stops : goal.returns-in-Err-clause-stops
@@ -49,6 +44,4 @@ returns-clause-confirmed g c = λ name run. run_confirms name (new_world c.args.
 pub returns-clause-once : goal.returns-clause-once
 returns-clause-once g c =
     let here = c.loop-event in
-    let start = new_world c.args.config in
-    let Stood : List Event → Type 0 = λ es. StandsOnce start es here.answers.items (world_of here.machine) in
-    runs_once start c.args.events.now here.answers.items (world_of here.machine) here.invariant.machine.good (headline here.machine here.invariant.machine) (subst Stood (take_all here.event-index c.args.events.now c.loop-event-test.false) here.invariant.once)
+    runs_once c.args.config c.args.events.now here.answers.items (world_of here.machine) here.invariant.machine.good (headline here.machine here.invariant.machine)

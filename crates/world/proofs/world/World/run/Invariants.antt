@@ -3,7 +3,6 @@ use Rattle.std.specs.Prelude.{◌≤◌, vec_capacity}
 use Rattle.world.specs.State.{new_world}
 use Rattle.world.specs.Machine.{IsMachine, world_of}
 use Rattle.world.specs.Steps.{IsRun}
-use Rattle.world.proofs.OnceRuns.{StandsOnce}
 use Rattle.world.proofs.world.World.run.Given as goal
 
 abbrev pub invariant-loop-event : goal.invariant-loop-event
@@ -12,5 +11,4 @@ invariant-loop-event g l = record {
   run : IsRun (new_world l.fn.config) (take l.event-index l.events) l.answers.items (world_of l.machine);
   count : length l.answers.items ≡ l.event-index;
   room : length l.events ≤ vec_capacity l.answers;
-  once : StandsOnce (new_world l.fn.config) (take l.event-index l.events) l.answers.items (world_of l.machine);
 }
