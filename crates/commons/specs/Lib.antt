@@ -1,3 +1,4 @@
+pub mod Ending
 pub mod Notices
 pub mod Published
 pub mod Refusals

@@ -1,6 +1,7 @@
 //! What the connections of a hub have in common, and who waits for what.
 
-ghost use Rattle.std.specs.Prelude.{◌≡◌};
+ghost use Rattle.std.specs.Prelude.{◌≡◌, vec_len};
+ghost use Rattle.commons.specs.Notices.{IsWoken};
 
 use crate::commit_notice::CommitNotice;
 use crate::fault::HubFault;
@@ -8,6 +9,7 @@ use crate::opened::OpenedHub;
 use crate::pool::Pool;
 use crate::settings::HubSettings;
 use crate::shared::{Places, Shared};
+use crate::spreading::{Unheard, Woken};
 use crate::system::SystemName;
 use connections::{Latch, Line, Names, SlotPost, Sockets};
 use publication::Publications;
@@ -201,29 +203,18 @@ impl<L: LogName + SlotName> Commons<L> {
     // ---- what threads wait for
 
     /// A commit leaves its receipt: streams read on up to it, at least.
-    pub fn tell<R: Wait>(&self, rt: &R, receipt: Receipt<L>) {
-        let mut notice = self.notice.lock(rt);
-        notice.publish(receipt);
-        let end = notice.end();
-        drop(notice);
-        self.wake(rt, end);
+    pub fn tell<R: Wait>(&self, rt: &R, receipt: Receipt<L>) -> Woken
+        ensures { IsWoken (vec_len self.now.latches) receipt.end result }
+    {
+        self.spread(rt, Unheard::of_commit(receipt))
     }
 
     /// A note or an abort leaves where the log ended right after it, and no receipt: streams read on up to there, at least, so that
     /// their clients can confirm it.
-    pub fn tell_end<R: Wait>(&self, rt: &R, end: u64) {
-        let mut notice = self.notice.lock(rt);
-        notice.note(end);
-        let end = notice.end();
-        drop(notice);
-        self.wake(rt, end);
-    }
-
-    /// Wakes each stream that hasn't read up to this position.
-    fn wake<R: Wait>(&self, rt: &R, end: u64) {
-        for latch in &self.latches {
-            latch.tell_end(rt, end);
-        }
+    pub fn tell_end<R: Wait>(&self, rt: &R, end: u64) -> Woken
+        ensures { IsWoken (vec_len self.now.latches) end result }
+    {
+        self.spread(rt, Unheard::of_end(end))
     }
 
     /// The connection of the stream with this latch has something to do.

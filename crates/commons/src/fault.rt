@@ -6,6 +6,7 @@ ghost use Rattle.commons.specs.declared.fault.HubFault.TheVariants.{Memory};
 use std::alloc::{AllocError, AllocFailed};
 use std::io;
 use thiserror::Error;
+use txlog::SessionFault;
 
 /// Why no hub was made of a configuration.
 #[derive(Clone, Copy, Debug, PartialEq, Eq, Error)]
@@ -30,6 +31,18 @@ impl<T: Drop> From<AllocFailed<T>> for HubFault {
     fn from(_e: AllocFailed<T>) -> HubFault {
         HubFault::Memory
     }
+}
+
+/// Why a transaction didn't end as its work asked.
+#[derive(Clone, Copy, Debug, PartialEq, Eq, Error)]
+pub enum EndFault {
+    /// Its commit was refused, or the end of a savepoint: it is aborted, and nothing of it stands.
+    #[error("{0}")]
+    Aborted(SessionFault),
+    /// Memory was refused for its abort: it stays in progress for good. Nothing of it commits, but rows stay as it left them, and their
+    /// keys are held.
+    #[error("out of memory: the transaction could not be aborted, and holds its rows")]
+    Unended,
 }
 
 /// Why `serve` took no more connections.

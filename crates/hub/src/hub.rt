@@ -1,8 +1,10 @@
 //! What the connections of a publisher are served from, for whoever runs it.
 
-ghost use Rattle.std.specs.Prelude.{◌≡◌};
+ghost use Rattle.std.specs.Prelude.{◌≡◌, IfOk, vec_len};
+ghost use Rattle.commons.specs.Ending.{HasBegun};
+ghost use Rattle.commons.specs.Notices.{IsWoken};
 
-use commons::{Commons, HubFault, HubStatus, OpenedHub, SteerFault, Transaction};
+use commons::{Commons, HubFault, HubStatus, OpenedHub, SteerFault, Transaction, Woken};
 use shared_log::LogName;
 use slots::SlotName;
 use std::alloc::{AllocError, Global};
@@ -49,21 +51,27 @@ impl<L: LogName + SlotName> Hub<L> {
     }
 
     /// A commit leaves its receipt: streams read on up to it, at least.
-    pub fn tell<R: Wait>(&self, rt: &R, receipt: Receipt<L>) {
-        self.commons.tell(rt, receipt);
+    pub fn tell<R: Wait>(&self, rt: &R, receipt: Receipt<L>) -> Woken
+        ensures { IsWoken (vec_len self.now.commons.latches) receipt.end result }
+    {
+        self.commons.tell(rt, receipt)
     }
 
     /// A note or an abort leaves where the log ended right after it, and no receipt: streams read on up to there, at least, so that
     /// their clients can confirm it.
-    pub fn tell_end<R: Wait>(&self, rt: &R, end: u64) {
-        self.commons.tell_end(rt, end);
+    pub fn tell_end<R: Wait>(&self, rt: &R, end: u64) -> Woken
+        ensures { IsWoken (vec_len self.now.commons.latches) end result }
+    {
+        self.commons.tell_end(rt, end)
     }
 
     /// Begins a transaction, once no other is in progress by this way.
     pub fn transaction<'h, R: Wait>(
         &'h self,
         rt: &'h R,
-    ) -> Result<Transaction<'h, L, R>, SessionFault> {
+    ) -> Result<Transaction<'h, L, R>, SessionFault>
+        ensures { IfOk result HasBegun }
+    {
         self.commons.transaction(rt)
     }
 

@@ -18,8 +18,8 @@ mod work_desk;
 mod write_loop;
 
 pub use commons::{
-    HubFault, HubSettings, HubStatus, OpenedHub, Savepoint, ServeFault, SlotStatus, SteerFault,
-    Transaction,
+    EndFault, HubFault, HubSettings, HubStatus, OpenedHub, Savepoint, ServeFault, SlotStatus,
+    SteerFault, Transaction, Woken,
 };
 pub use connections::{ConnectionEnd, Gate, OpenGate, RefusedCommand, Unserved, Untaken};
 pub use hub::Hub;

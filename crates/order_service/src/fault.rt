@@ -1,5 +1,6 @@
 //! Why an order isn't placed.
 
+use hub::EndFault;
 use std::alloc::AllocError;
 use thiserror::Error;
 use txlog::SessionFault;
@@ -10,11 +11,19 @@ pub enum OrderFault {
     SoldOut,
     #[error("{0}")]
     Session(SessionFault),
+    #[error("{0}")]
+    End(EndFault),
 }
 
 impl From<SessionFault> for OrderFault {
     fn from(fault: SessionFault) -> OrderFault {
         OrderFault::Session(fault)
+    }
+}
+
+impl From<EndFault> for OrderFault {
+    fn from(fault: EndFault) -> OrderFault {
+        OrderFault::End(fault)
     }
 }
 
