@@ -3,7 +3,7 @@
 ghost use Rattle.std.specs.Prelude.{◌≡◌, ◌+◌, ◌⊎◌, Err, IfErr, IfOk, None, OnErr, OnOk, Some, if◌then◌else◌, length};
 ghost use Rattle.std.specs.Option.{option_copied};
 ghost use Rattle.commons.specs.Ending.{HasBegun, IsSpoilt, writes};
-ghost use Rattle.txlog.specs.Publishing.{RefusedExactly, RefusedOrMemory, after_change, after_delete, after_release, after_rollback, after_savepoint, after_update, delete_refusal, insert_refusal, message_refusal, message_with, release_refusal, rollback_refusal, savepoint_refusal, savepoints_of, truncate_refusal, update_refusal};
+ghost use Rattle.txlog.specs.Publishing.{RefusedOrMemory, after_change, after_delete, after_release, after_rollback, after_savepoint, after_update, delete_refusal, insert_refusal, message_refusal, message_with, release_refusal, rollback_refusal, savepoint_refusal, savepoints_of, truncate_refusal, update_refusal};
 ghost use Rattle.txlog.specs.Rows.{rows_of};
 
 use crate::commons::Commons;
