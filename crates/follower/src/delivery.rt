@@ -50,7 +50,13 @@ impl Delivery {
         bytes: &[u8],
         socket: &mut S,
         output: &mut W,
-    ) -> Result<(), FollowFault> {
+    ) -> Result<(), FollowFault>
+        ensures goes { (rest : List ℕ) → Goes
+            (standing self.old (bytes.now ++ rest) (W.contents output.old) (W.kept output.old)
+            (S.contents socket.old))
+            (standing self.new rest (W.contents output.new) (W.kept output.new)
+            (S.contents socket.new)) }
+    {
         let taken = self.intake.take(bytes);
         self.answer(frame, taken, socket, output)
     }

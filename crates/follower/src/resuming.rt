@@ -1,5 +1,9 @@
 //! Following a slot over lost connections: each transaction printed once, whole, and acknowledged behind that.
 
+ghost use Rattle.std.specs.Prelude.{◌≡◌, ◌≤◌, [], ℕ, List, OnOk, length};
+ghost use Rattle.std.specs.Io.KnownBytes.{Keeps};
+ghost use Rattle.follower.specs.Standing.{Goes, standing};
+
 use crate::asking::{ask_system, create_if_absent, greet, start_stream};
 use crate::delivery::Delivery;
 use crate::fault::{FollowFault, OtherSystem};
@@ -104,7 +108,10 @@ impl Subscription {
     }
 
     /// Takes the server for the system that it says it is, or refuses it where another one was followed.
-    fn meet<W: Output>(&mut self, system: String, output: &mut W) -> Result<(), FollowFault> {
+    fn meet<W: Output>(&mut self, system: String, output: &mut W) -> Result<(), FollowFault>
+        ensures written { Keeps (W.contents output.old) (W.contents output.new) }
+        ensures delivery { self.new.delivery ≡ self.old.delivery }
+    {
         match &self.system {
             None => {
                 output
@@ -124,7 +131,15 @@ impl Subscription {
         incoming: &mut Incoming,
         socket: &mut S,
         output: &mut W,
-    ) -> Result<(), FollowFault> {
+    ) -> Result<(), FollowFault>
+        ensures goes { Goes
+            (standing self.old.delivery incoming.old.unread.items (W.contents output.old)
+            (W.kept output.old) (S.contents socket.old))
+            (standing self.new.delivery incoming.new.unread.items (W.contents output.new)
+            (W.kept output.new) (S.contents socket.new)) }
+        ensures complete { OnOk result (self.new.delivery.intake.left
+            ≤ length self.new.delivery.intake.applier.subscriber.applied) }
+    {
         for _ in rt.forever() {
             if self.delivery.intake.is_complete() {
                 break;
@@ -140,7 +155,13 @@ impl Subscription {
         incoming: &mut Incoming,
         socket: &mut S,
         output: &mut W,
-    ) -> Result<(), FollowFault> {
+    ) -> Result<(), FollowFault>
+        ensures goes { Goes
+            (standing self.old.delivery incoming.old.unread.items (W.contents output.old)
+            (W.kept output.old) (S.contents socket.old))
+            (standing self.new.delivery incoming.new.unread.items (W.contents output.new)
+            (W.kept output.new) (S.contents socket.new)) }
+    {
         match incoming.whole()? {
             Some((frame, length)) => {
                 let front = incoming.front(length);
@@ -160,7 +181,13 @@ impl Subscription {
         incoming: &mut Incoming,
         socket: &mut S,
         output: &mut W,
-    ) -> Result<(), FollowFault> {
+    ) -> Result<(), FollowFault>
+        ensures goes { Goes
+            (standing self.old.delivery incoming.old.unread.items (W.contents output.old)
+            (W.kept output.old) (S.contents socket.old))
+            (standing self.new.delivery incoming.new.unread.items (W.contents output.new)
+            (W.kept output.new) (S.contents socket.new)) }
+    {
         match incoming.receive_more(socket) {
             Err(FollowFault::Silent) if !self.is_asked => {
                 self.is_asked = true;
@@ -179,7 +206,15 @@ impl Subscription {
         ended: Result<(), FollowFault>,
         socket: &mut S,
         output: &mut W,
-    ) -> Result<(), FollowFault> {
+    ) -> Result<(), FollowFault>
+        ensures goes { (unread : List ℕ) → Goes
+            (standing self.old.delivery unread (W.contents output.old) (W.kept output.old)
+            (S.contents socket.old))
+            (standing self.new.delivery unread (W.contents output.new) (W.kept output.new)
+            (S.contents socket.new)) }
+        ensures all { OnOk result ((self.new.delivery.intake.applier.subscriber.applied ≡ [])
+            × (W.kept output.new ≡ W.contents output.new)) }
+    {
         self.delivery.print(output)?;
         ended?;
         self.delivery.print_last(output)?;
