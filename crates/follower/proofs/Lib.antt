@@ -1,3 +1,5 @@
 pub mod Gaining
 pub mod Printed
 pub mod Deeds
+pub mod Given
+pub mod Going

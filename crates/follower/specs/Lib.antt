@@ -2,4 +2,5 @@ pub mod Kept
 pub mod Once
 pub mod Promise
 pub mod Retrying
+pub mod Standing
 pub mod Told

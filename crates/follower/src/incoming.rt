@@ -1,9 +1,14 @@
 //! The frames that a server sends, one after the other.
 
+ghost use Rattle.std.specs.Prelude.{◌≡◌, ◌++◌, ℕ, List, drop, take};
+ghost use Rattle.std.specs.Io.KnownBytes.{Keeps};
+
 use crate::fault::{FollowFault, unread};
+use crate::peer::Peer;
 use bytes::BytesMut;
 use frames::{Back, read_back};
 use std::alloc::Global;
+use std::io;
 use std::io::{ErrorKind, Read};
 use std::sync::Wait;
 
@@ -45,26 +50,44 @@ impl Incoming {
         Ok(read_back(self.alloc, self.unread.as_slice())?)
     }
 
-    /// Waits for more. Where a signal ends the wait, as that which continues a stopped process, nothing has come.
-    pub(crate) fn read_more<S: Read>(&mut self, socket: &mut S) -> Result<(), FollowFault> {
+    /// Waits for more.
+    fn read_more<S: Read>(&mut self, socket: &mut S) -> Result<(), FollowFault> {
         self.unread.reserve(MOST_READ)?;
-        match self.unread.read_from(socket) {
-            Ok(0) => Err(FollowFault::Ended),
-            Ok(_) => Ok(()),
-            Err(fault) if fault.kind() == ErrorKind::Interrupted => Ok(()),
-            Err(fault) => Err(unread(fault)),
-        }
+        came(self.unread.read_from(socket))
+    }
+
+    /// Waits for more of a stream.
+    pub(crate) fn receive_more<S: Peer>(&mut self, socket: &mut S) -> Result<(), FollowFault>
+        ensures sent { Keeps (S.contents socket.old) (S.contents socket.new) }
+        ensures more { (more : List ℕ) × (self.new.unread.items ≡ self.old.unread.items ++ more) }
+    {
+        self.unread.reserve(MOST_READ)?;
+        came(socket.receive(&mut self.unread))
     }
 
     /// Up to so many bytes at the front.
-    pub(crate) fn front(&self, count: usize) -> &[u8] {
+    pub(crate) fn front(&self, count: usize) -> &[u8]
+        ensures { result.now ≡ take count self.now.unread.items }
+    {
         let unread = self.unread.as_slice();
         &unread[..count.min(unread.len())]
     }
 
     /// Takes up to so many bytes off the front.
-    pub(crate) fn pass(&mut self, count: usize) {
+    pub(crate) fn pass(&mut self, count: usize)
+        ensures { self.new.unread.items ≡ drop count self.old.unread.items }
+    {
         let count = count.min(self.unread.len());
         self.unread.advance(count);
+    }
+}
+
+/// What a read comes to. Where a signal ends the wait, as that which continues a stopped process, nothing has come.
+fn came(read: io::Result<usize>) -> Result<(), FollowFault> {
+    match read {
+        Ok(0) => Err(FollowFault::Ended),
+        Ok(_) => Ok(()),
+        Err(fault) if fault.kind() == ErrorKind::Interrupted => Ok(()),
+        Err(fault) => Err(unread(fault)),
     }
 }

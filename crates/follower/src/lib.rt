@@ -3,9 +3,11 @@
 #![tactic(auto)]
 
 mod asking;
+mod delivery;
 mod fault;
 mod following;
 mod form;
+mod giving;
 mod incoming;
 mod intake;
 mod json_form;
@@ -14,6 +16,7 @@ mod kept;
 mod line;
 mod options;
 mod output;
+mod peer;
 mod printer;
 mod promise;
 mod resuming;
@@ -30,6 +33,7 @@ pub use form::Form;
 pub use kept::Kept;
 pub use options::Options;
 pub use output::Output;
+pub use peer::Peer;
 pub use promise::{each_transaction_is_printed_once, no_transaction_is_lost};
 pub use resuming::{Subscription, resume};
 pub use retrying::{LONGEST_PAUSE, Pauses, SHORTEST_PAUSE};

@@ -1,10 +1,22 @@
 //! What transactions are printed into.
 
+ghost use Rattle.std.specs.Prelude.{◌≡◌, ℕ, List, Option, None, OnOk};
+ghost use Rattle.std.specs.Io.KnownBytes.{Keeps};
+
 use std::io;
 use std::io::Write;
 
 /// What transactions are printed into. What outlives its run keeps with them which system they came from.
 pub trait Output: Write {
+    /// What stands there for good, where that is known.
+    ghost kept: { Self → Option (List ℕ) } = { λ _. None };
+
     /// The server says which system it is: the first that this run follows. Nothing was printed yet.
-    fn keep_system(&mut self, system: &str) -> io::Result<()>;
+    fn keep_system(&mut self, system: &str) -> io::Result<()>
+        ensures written { Keeps (Self.contents self.old) (Self.contents self.new) };
+
+    /// All that was written stands there for good: no end of the run loses it.
+    fn keep(&mut self) -> io::Result<()>
+        ensures written { Keeps (Self.contents self.old) (Self.contents self.new) }
+        ensures kept { OnOk result (kept self.new ≡ Self.contents self.new) };
 }

@@ -1,33 +1,35 @@
-//! What holds of an intake over all its connections.
+//! What holds of a follower over all its connections.
 
-ghost use Rattle.std.specs.Prelude.{◌≡◌, ℕ, List, [], ◌++◌};
+ghost use Rattle.std.specs.Prelude.{◌≡◌, ℕ, List, Option, [], ◌++◌};
 ghost use Rattle.pgoutput.specs.declared.relation.Relation.{Relation};
 ghost use Rattle.pgoutput.specs.declared.published.Published.{Published};
 ghost use Rattle.pgoutput.specs.Items.{Item, bytes_of_items, FitItems};
-ghost use Rattle.client.specs.Taking.{ApplierState};
 ghost use Rattle.client.specs.Law.{AreForward, GainedAll};
-ghost use Rattle.follower.specs.Once.{EachOnce, applier_at_connection, before};
-ghost use Rattle.follower.specs.Promise.{Deed, Runs, begun_at, printed_in, AreReceived, received_bytes};
+ghost use Rattle.follower.specs.Once.{EachOnce, before};
+ghost use Rattle.follower.specs.Standing.{Standing, Deed, Connects, Does, Runs};
+ghost use Rattle.follower.specs.Promise.{begun_at, printed_in, AreReceived, received_bytes};
 
 /// Whatever servers send, wherever connections are cut, and whenever something is printed: what was printed, and then what wasn't
 /// yet, came one behind the other from where it began up to the position, each transaction once.
 pub fn each_transaction_is_printed_once()
-    ensures { (start : ℕ) (deeds : List Deed) (now : ApplierState)
-        (run : Runs (begun_at start) deeds now) →
-        EachOnce start (printed_in (begun_at start) deeds now run ++ now.subscriber.applied)
-        now.subscriber.position }
+    ensures { (start : ℕ) (written kept sent : Option (List ℕ)) (deeds : List Deed) (now : Standing)
+        (run : Runs (begun_at start written kept sent) deeds now) →
+        EachOnce start
+        (printed_in (begun_at start written kept sent) deeds now run
+        ++ now.applier.subscriber.applied)
+        now.applier.subscriber.position }
 {}
 
 /// Of a connection whose bytes begin a stream of transactions that end past their starts, all that stands whole in them was added
 /// to what was printed before or waits for it, but for the transactions that stood below the position already.
 pub fn no_transaction_is_lost()
-    ensures { (printed : List Published) (old : ApplierState) (deeds : List Deed)
-        (now : ApplierState) (run : Runs (applier_at_connection old) deeds now)
-        (relation : ℕ → Relation)
+    ensures { (printed : List Published) (old begun : Standing) (deeds : List Deed) (now : Standing)
+        (run : Runs begun deeds now) (relation : ℕ → Relation)
         (items : List Item) (more : List ℕ) →
-        AreReceived deeds → FitItems relation items → AreForward items →
+        Does Connects old begun → AreReceived deeds → FitItems relation items →
+        AreForward items →
         received_bytes deeds ++ more ≡ bytes_of_items relation [] items →
-        GainedAll relation (before printed (applier_at_connection old).subscriber)
+        GainedAll relation (before printed begun.applier.subscriber)
         (received_bytes deeds) items
-        (before (printed ++ printed_in (applier_at_connection old) deeds now run) now.subscriber) }
+        (before (printed ++ printed_in begun deeds now run) now.applier.subscriber) }
 {}

@@ -1,29 +1,25 @@
 //! Following a slot over lost connections: each transaction printed once, whole, and acknowledged behind that.
 
-ghost use Rattle.std.specs.Prelude.{◌≡◌, [], OnOk};
+ghost use Rattle.std.specs.Prelude.{◌≡◌, ◌≤◌, [], ℕ, List, OnOk, length};
+ghost use Rattle.std.specs.Io.KnownBytes.{Keeps};
+ghost use Rattle.follower.specs.Standing.{Goes, standing};
 
-use crate::asking::{ask_system, create_if_absent, greet, send, start_stream};
+use crate::asking::{ask_system, create_if_absent, greet, start_stream};
+use crate::delivery::Delivery;
 use crate::fault::{FollowFault, OtherSystem};
 use crate::incoming::Incoming;
-use crate::intake::Intake;
 use crate::kept::Kept;
 use crate::options::Options;
 use crate::output::Output;
-use crate::printer::Printer;
-use crate::streamed::{body_in, carried, message_in, print_lines};
-use copyboth::ServerBody;
-use frames::{Back, Front};
-use pgoutput::{Logical, RELATION, Relation};
+use crate::peer::Peer;
 use std::alloc::Global;
-use std::io::{Read, Write};
 use std::sync::Wait;
 
 /// What is followed over connections: how far it is, and what it still waits for.
 #[derive(Drop)]
 pub struct Subscription {
     alloc: Global,
-    intake: Intake,
-    printer: Printer,
+    delivery: Delivery,
     /// The system whose transactions are printed, once it is known.
     system: Option<String>,
     is_created: bool,
@@ -49,8 +45,7 @@ impl Subscription {
         let count = options.count.saturating_sub(kept.transactions);
         Subscription {
             alloc,
-            intake: Intake::new(alloc, position, count),
-            printer: Printer::new(alloc, options.form, &kept.cut()),
+            delivery: Delivery::new(alloc, options.form, &kept.cut(), position, count),
             system,
             is_created: false,
             is_asked: false,
@@ -59,7 +54,7 @@ impl Subscription {
 
     /// All that commits below it was printed.
     pub fn position(&self) -> u64 {
-        self.intake.position()
+        self.delivery.intake.position()
     }
 }
 
@@ -72,7 +67,7 @@ impl Subscription {
 ///
 /// Where the fault is a passing one (`FollowFault::is_passing`), the subscription goes on over another connection. Once all is
 /// printed, a connection that is lost is no fault.
-pub fn resume<R: Wait, S: Read + Write, W: Output>(
+pub fn resume<R: Wait, S: Peer, W: Output>(
     rt: &R,
     alloc: Global,
     socket: &mut S,
@@ -84,16 +79,15 @@ pub fn resume<R: Wait, S: Read + Write, W: Output>(
     subscription.ask_for_stream(rt, &mut incoming, socket, options, output)?;
     let ended = subscription.take_frames(rt, &mut incoming, socket, output);
     drop(incoming);
-    subscription.print(output)?;
-    ended?;
-    subscription.print_last(output)?;
-    let _ = subscription.end_stream(socket);
-    Ok(())
+    match ended {
+        Err(FollowFault::Output(fault)) => return Err(FollowFault::Output(fault)),
+        ended => return subscription.finish(ended, socket, output),
+    }
 }
 
 impl Subscription {
     /// Asks for the stream, up to its first frame. The slot is created once: if it is dropped later, what it missed would be lost.
-    fn ask_for_stream<R: Wait, S: Read + Write, W: Output>(
+    fn ask_for_stream<R: Wait, S: Peer, W: Output>(
         &mut self,
         rt: &R,
         incoming: &mut Incoming,
@@ -109,12 +103,15 @@ impl Subscription {
             self.is_created = true;
         }
         self.is_asked = false;
-        let position = self.intake.connect();
+        let position = self.delivery.intake.connect();
         start_stream(rt, self.alloc, incoming, socket, options, position)
     }
 
     /// Takes the server for the system that it says it is, or refuses it where another one was followed.
-    fn meet<W: Output>(&mut self, system: String, output: &mut W) -> Result<(), FollowFault> {
+    fn meet<W: Output>(&mut self, system: String, output: &mut W) -> Result<(), FollowFault>
+        ensures written { Keeps (W.contents output.old) (W.contents output.new) }
+        ensures delivery { self.new.delivery ≡ self.old.delivery }
+    {
         match &self.system {
             None => {
                 output
@@ -128,15 +125,23 @@ impl Subscription {
     }
 
     /// Takes frames until all that is waited for is there.
-    fn take_frames<R: Wait, S: Read + Write, W: Write>(
+    fn take_frames<R: Wait, S: Peer, W: Output>(
         &mut self,
         rt: &R,
         incoming: &mut Incoming,
         socket: &mut S,
         output: &mut W,
-    ) -> Result<(), FollowFault> {
+    ) -> Result<(), FollowFault>
+        ensures goes { Goes
+            (standing self.old.delivery incoming.old.unread.items (W.contents output.old)
+            (W.kept output.old) (S.contents socket.old))
+            (standing self.new.delivery incoming.new.unread.items (W.contents output.new)
+            (W.kept output.new) (S.contents socket.new)) }
+        ensures complete { OnOk result (self.new.delivery.intake.left
+            ≤ length self.new.delivery.intake.applier.subscriber.applied) }
+    {
         for _ in rt.forever() {
-            if self.intake.is_complete() {
+            if self.delivery.intake.is_complete() {
                 break;
             }
             self.take_next(incoming, socket, output)?;
@@ -145,143 +150,76 @@ impl Subscription {
     }
 
     /// Takes the frame at the front, or waits for more of it.
-    fn take_next<S: Read + Write, W: Write>(
+    fn take_next<S: Peer, W: Output>(
         &mut self,
         incoming: &mut Incoming,
         socket: &mut S,
         output: &mut W,
-    ) -> Result<(), FollowFault> {
+    ) -> Result<(), FollowFault>
+        ensures goes { Goes
+            (standing self.old.delivery incoming.old.unread.items (W.contents output.old)
+            (W.kept output.old) (S.contents socket.old))
+            (standing self.new.delivery incoming.new.unread.items (W.contents output.new)
+            (W.kept output.new) (S.contents socket.new)) }
+    {
         match incoming.whole()? {
             Some((frame, length)) => {
-                self.take_frame(frame, incoming.front(length), socket, output)?;
+                let front = incoming.front(length);
+                let taken = self.delivery.take(frame, front, socket, output);
                 incoming.pass(length);
-                Ok(())
+                return taken;
             }
-            None => {
-                self.settle(socket, output)?;
-                self.wait(incoming, socket, output)
-            }
+            None => {}
         }
+        self.delivery.settle(socket, output)?;
+        self.wait(incoming, socket, output)
     }
 
-    /// Waits for more.
-    fn wait<S: Read + Write, W: Write>(
+    /// Waits for more. Where nothing comes, the server is asked for a keepalive, once.
+    fn wait<S: Peer, W: Output>(
         &mut self,
         incoming: &mut Incoming,
         socket: &mut S,
         output: &mut W,
-    ) -> Result<(), FollowFault> {
-        match incoming.read_more(socket) {
+    ) -> Result<(), FollowFault>
+        ensures goes { Goes
+            (standing self.old.delivery incoming.old.unread.items (W.contents output.old)
+            (W.kept output.old) (S.contents socket.old))
+            (standing self.new.delivery incoming.new.unread.items (W.contents output.new)
+            (W.kept output.new) (S.contents socket.new)) }
+    {
+        match incoming.receive_more(socket) {
             Err(FollowFault::Silent) if !self.is_asked => {
                 self.is_asked = true;
-                self.acknowledge(true, socket, output)
+                return self.delivery.acknowledge(true, socket, output);
             }
             read => {
                 self.is_asked = false;
-                read
+                return read;
             }
         }
     }
 
-    /// Takes a frame, and does what it asks for.
-    fn take_frame<S: Write, W: Write>(
+    /// Prints what came before the end, and behind all of it the last line; then ends the stream.
+    fn finish<S: Peer, W: Output>(
         &mut self,
-        frame: Back,
-        bytes: &[u8],
+        ended: Result<(), FollowFault>,
         socket: &mut S,
         output: &mut W,
-    ) -> Result<(), FollowFault> {
-        let taken = self.intake.take(bytes);
-        let data = carried(frame, taken)?;
-        match body_in(&data)? {
-            ServerBody::XLogData(data) => self.take_message(data.payload, output),
-            ServerBody::Keepalive(keepalive) if keepalive.ask => {
-                self.acknowledge(false, socket, output)
-            }
-            ServerBody::Keepalive(_) => Ok(()),
-        }
-    }
-
-    fn take_message<W: Write>(
-        &mut self,
-        payload: &[u8],
-        output: &mut W,
-    ) -> Result<(), FollowFault> {
-        if payload.first() != Some(&RELATION) {
-            return Ok(());
-        }
-        match message_in(self.alloc, payload)? {
-            Logical::Relation(relation) => self.tell(relation, output),
-            other => {
-                drop(other);
-                Ok(())
-            }
-        }
-    }
-
-    /// Keeps what is told of a table. What is there is printed by what was told of it before.
-    fn tell<W: Write>(&mut self, relation: Relation, output: &mut W) -> Result<(), FollowFault> {
-        match self.printer.has_told_else(&relation) {
-            true => self.print(output)?,
-            false => {}
-        }
-        Ok(self.printer.tell(relation)?)
-    }
-
-    /// Acknowledges what is there, where something is.
-    fn settle<S: Write, W: Write>(
-        &mut self,
-        socket: &mut S,
-        output: &mut W,
-    ) -> Result<(), FollowFault> {
-        if self.intake.unprinted().is_empty() {
-            return Ok(());
-        }
-        self.acknowledge(false, socket, output)
-    }
-
-    /// Tells the server the position, behind what was printed, and may ask for a keepalive.
-    fn acknowledge<S: Write, W: Write>(
-        &mut self,
-        ask: bool,
-        socket: &mut S,
-        output: &mut W,
-    ) -> Result<(), FollowFault> {
-        self.print(output)?;
-        let status = self.intake.status(ask);
-        socket.write_all(&status).map_err(FollowFault::Connection)
-    }
-
-    /// Prints what is there, and has it flushed.
-    fn print<W: Write>(&mut self, output: &mut W) -> Result<(), FollowFault>
-        ensures { OnOk result (self.new.intake.applier.subscriber.applied ≡ []) }
+    ) -> Result<(), FollowFault>
+        ensures goes { (unread : List ℕ) → Goes
+            (standing self.old.delivery unread (W.contents output.old) (W.kept output.old)
+            (S.contents socket.old))
+            (standing self.new.delivery unread (W.contents output.new) (W.kept output.new)
+            (S.contents socket.new)) }
+        ensures all { OnOk result ((self.new.delivery.intake.applier.subscriber.applied ≡ [])
+            × (W.kept output.new ≡ W.contents output.new)) }
     {
-        print_lines(self.lines()?.as_slice(), output)?;
-        self.intake.printed();
+        self.delivery.print(output)?;
+        ended?;
+        self.delivery.print_last(output)?;
+        let _ = self.delivery.end_stream(socket);
         Ok(())
-    }
-
-    /// The lines of what is there. They are made before the first is printed, so that want of memory prints no half transaction.
-    fn lines(&mut self) -> Result<Vec<u8>, FollowFault> {
-        let mut lines = Vec::new(self.alloc);
-        for transaction in self.intake.unprinted() {
-            self.printer.add(transaction, &mut lines)?;
-        }
-        Ok(lines)
-    }
-
-    /// Prints what stands behind all, once all is printed.
-    fn print_last<W: Write>(&self, output: &mut W) -> Result<(), FollowFault> {
-        print_lines(self.printer.last(self.alloc)?.as_slice(), output)
-    }
-
-    /// The last status, and the end of the stream.
-    fn end_stream<S: Write>(&self, socket: &mut S) -> Result<(), FollowFault>
-        requires { self.now.intake.applier.subscriber.applied ≡ [] }
-    {
-        let status = self.intake.status(false);
-        socket.write_all(&status).map_err(FollowFault::Connection)?;
-        send(self.alloc, socket, &Front::CopyDone)
     }
 }
 

@@ -151,4 +151,8 @@ impl Output for Journal<'_> {
     fn keep_system(&mut self, system: &str) -> io::Result<()> {
         self.system.write(system)
     }
+
+    fn keep(&mut self) -> io::Result<()> {
+        self.flush()
+    }
 }

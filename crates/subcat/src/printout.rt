@@ -47,4 +47,8 @@ impl Output for Printout<'_> {
     fn keep_system(&mut self, _system: &str) -> io::Result<()> {
         Ok(())
     }
+
+    fn keep(&mut self) -> io::Result<()> {
+        self.flush()
+    }
 }

@@ -1,0 +1,130 @@
+-- One deed behind the other.
+use Rattle.std.specs.Prelude.{OnOk, OnErr}
+use Rattle.std.proofs.Common.{◌≡◌, ◌⊎◌, inl, inr, ℕ, Bool, true, false, List, [], ◌∷◌, ◌++◌, Option, Result, Ok, Err, refl, sym, ap, subst, ◌∙◌, length, take}
+use Rattle.std.specs.List.{AllByRecursion}
+use Rattle.std.specs.Io.KnownBytes.{Appends, Keeps}
+use Rattle.frames.specs.Frame.{frame}
+use Rattle.frames.specs.declared.copy_done.TheConstants.{COPY_DONE}
+use Rattle.client.specs.declared.fault.ClientFault.{ClientFault}
+use Rattle.client.specs.Taking.{ApplierState, Takes}
+use Rattle.follower.specs.Once.{applier_without_applied}
+use Rattle.follower.specs.declared.delivery.Delivery.{Delivery}
+use Rattle.follower.specs.Standing.{Standing, Deed, Asks, Connects, Waits, Receives, Prints, Sums, Breaks, Tells, Ends, Does, DoesPrint, DoesBreak, DoesSend, Runs, IsOfAStream, Goes, HandsOver, FailsToHand, standing, status_at}
+
+runs_then : (a : Standing) (ds es : List Deed) (b c : Standing) → Runs a ds b → Runs b es c → Runs a (ds ++ es) c
+runs_then a [] es b c p q = subst (λ (s : Standing). Runs s es c) p q
+runs_then a (d ∷ ds) es b c p q = (p.0, p.1, runs_then p.0 ds es b c p.2 q)
+
+all_then : (ds es : List Deed) → AllByRecursion IsOfAStream ds → AllByRecursion IsOfAStream es → AllByRecursion IsOfAStream (ds ++ es)
+all_then [] es p q = q
+all_then (d ∷ ds) es p q = (p.0, all_then ds es p.1 q)
+
+pub goes_then : (a b c : Standing) → Goes a b → Goes b c → Goes a c
+goes_then a b c p q = record { deeds = p.deeds ++ q.deeds; runs = runs_then a p.deeds q.deeds b c p.runs q.runs; stream = all_then p.deeds q.deeds p.stream q.stream }
+
+pub goes_nowhere : (a : Standing) → Goes a a
+goes_nowhere a = record { deeds = []; runs = refl; stream = tt }
+
+pub goes_by : (a b : Standing) (deed : Deed) → Does deed a b → IsOfAStream deed → Goes a b
+goes_by a b deed does is = record { deeds = deed ∷ []; runs = (b, does, refl); stream = (is, tt) }
+
+-- ---- Printing.
+
+abbrev stands : List ℕ → Option (List ℕ) → Option (List ℕ) → Option (List ℕ) → ApplierState → Bool → Standing
+stands unread written kept sent a is_broken = record { applier = a; unread = unread; written = written; kept = kept; sent = sent; is_broken = is_broken }
+
+-- one whose intake and output are the same stands where the other does
+same_place : (unread : List ℕ) (written kept sent : Option (List ℕ)) (old new : Delivery) → new.intake ≡ old.intake → new.is_broken ≡ old.is_broken → standing new unread written kept sent ≡ standing old unread written kept sent
+same_place unread written kept sent old new same still =
+    ap (λ (a : ApplierState). stands unread written kept sent a new.is_broken) (ap (λ i. i.applier) same) ∙ ap (stands unread written kept sent old.intake.applier) still
+
+pub goes_same : (unread : List ℕ) (written kept sent : Option (List ℕ)) (old new : Delivery) → new.intake ≡ old.intake → new.is_broken ≡ old.is_broken → Goes (standing old unread written kept sent) (standing new unread written kept sent)
+goes_same unread written kept sent old new same still =
+    subst (λ (s : Standing). Goes (standing old unread written kept sent) s) (sym (same_place unread written kept sent old new same still)) (goes_nowhere (standing old unread written kept sent))
+
+-- lines were handed over, and what waited is taken for printed
+pub printing : (lines unread : List ℕ) (old ready handed : Delivery) (a : ApplierState) (before after before_kept kept sent : Option (List ℕ)) → ready.intake ≡ old.intake → ready.is_broken ≡ old.is_broken → handed.intake ≡ ready.intake
+    → a ≡ applier_without_applied handed.intake.applier → HandsOver lines ready.is_broken handed.is_broken before after kept
+    → Goes (standing old unread before before_kept sent) (stands unread after kept sent a handed.is_broken)
+printing lines unread old ready handed a before after before_kept kept sent same still handing without hands =
+    goes_by (standing old unread before before_kept sent) (stands unread after kept sent a handed.is_broken) (Prints lines)
+    (record {
+      sound = sym still ∙ hands.sound;
+      applier = without ∙ ap (λ i. applier_without_applied i.applier) (handing ∙ same);
+      unread = refl;
+      written = hands.written;
+      kept = hands.kept;
+      sent = refl;
+      still = hands.still;
+    }) tt
+
+-- they were not, and nothing is taken for printed
+pub failing : {V : Type 0} → (contents keeping : V → Option (List ℕ)) (lines unread : List ℕ) (old ready handed : Delivery) (before after : V) (sent : Option (List ℕ))
+    → ready.intake ≡ old.intake → ready.is_broken ≡ old.is_broken → handed.intake ≡ ready.intake
+    → ((handed ≡ ready) × (after ≡ before)) ⊎ FailsToHand lines ready.is_broken handed.is_broken (contents before) (contents after)
+    → Goes (standing old unread (contents before) (keeping before) sent) (standing handed unread (contents after) (keeping after) sent)
+failing {V} contents keeping lines unread old ready handed before after sent same still handing (inl nothing) =
+    let here = goes_same unread (contents before) (keeping before) sent old handed (handing ∙ same) (ap (λ (d : Delivery). d.is_broken) nothing.0 ∙ still) in
+    subst (λ (v : V). Goes (standing old unread (contents before) (keeping before) sent) (standing handed unread (contents v) (keeping v) sent)) (sym nothing.1) here
+failing {V} contents keeping lines unread old ready handed before after sent same still handing (inr fails) =
+    goes_by (standing old unread (contents before) (keeping before) sent) (standing handed unread (contents after) (keeping after) sent) (Breaks lines)
+    (record {
+      sound = sym still ∙ fails.sound;
+      applier = ap (λ i. i.applier) (handing ∙ same);
+      unread = refl;
+      count = fails.count;
+      written = fails.written;
+      sent = refl;
+      breaks = fails.breaks;
+    }) tt
+
+-- the last lines, where nothing waits
+summed : (lines unread : List ℕ) (old handed : Delivery) (before after before_kept kept sent : Option (List ℕ)) → old.intake.applier.subscriber.applied ≡ [] → handed.intake ≡ old.intake
+    → HandsOver lines old.is_broken handed.is_broken before after kept → Goes (standing old unread before before_kept sent) (standing handed unread after kept sent)
+summed lines unread old handed before after before_kept kept sent none same hands =
+    goes_by (standing old unread before before_kept sent) (standing handed unread after kept sent) (Sums lines)
+    (none, record {
+      sound = hands.sound;
+      applier = ap (λ i. i.applier) same ∙ ap (λ l. record old.intake.applier { subscriber = record old.intake.applier.subscriber { applied = l } }) none;
+      unread = refl;
+      written = hands.written;
+      kept = hands.kept;
+      sent = refl;
+      still = hands.still;
+    }) tt
+
+pub summing : {V T E : Type 0} → (contents keeping : V → Option (List ℕ)) (lines unread : List ℕ) (old handed : Delivery) (before after : V) (sent : Option (List ℕ)) (result : Result T E)
+    → old.intake.applier.subscriber.applied ≡ [] → handed.intake ≡ old.intake
+    → OnOk result (HandsOver lines old.is_broken handed.is_broken (contents before) (contents after) (keeping after))
+    → OnErr result (((handed ≡ old) × (after ≡ before)) ⊎ FailsToHand lines old.is_broken handed.is_broken (contents before) (contents after))
+    → Goes (standing old unread (contents before) (keeping before) sent) (standing handed unread (contents after) (keeping after) sent)
+summing contents keeping lines unread old handed before after sent (Ok u) none same ok err = summed lines unread old handed (contents before) (contents after) (keeping before) (keeping after) sent none same ok
+summing contents keeping lines unread old handed before after sent (Err e) none same ok err = failing contents keeping lines unread old old handed before after sent refl refl same err
+
+-- ---- Sending.
+
+pub telling : (ask : Bool) (unread : List ℕ) (d : Delivery) (written kept before after : Option (List ℕ)) → d.intake.applier.subscriber.applied ≡ [] → kept ≡ written
+    → ((count : ℕ) × Appends before after (take count (status_at d.intake.applier.subscriber.position ask)))
+    → Goes (standing d unread written kept before) (standing d unread written kept after)
+telling ask unread d written kept before after none safe part =
+    goes_by (standing d unread written kept before) (standing d unread written kept after) (Tells ask part.0) (record { printed = none; kept = safe; sent = part.1; same = refl }) tt
+
+pub ending : (bytes unread : List ℕ) (d : Delivery) (written kept before after : Option (List ℕ)) → d.intake.applier.subscriber.applied ≡ [] → kept ≡ written → bytes ≡ frame COPY_DONE []
+    → ((count : ℕ) × Appends before after (take count bytes))
+    → Goes (standing d unread written kept before) (standing d unread written kept after)
+ending bytes unread d written kept before after none safe is part =
+    goes_by (standing d unread written kept before) (standing d unread written kept after) (Ends part.0)
+    (record { printed = none; kept = safe; sent = subst (λ (l : List ℕ). Appends before after (take part.0 l)) is part.1; same = refl }) tt
+
+-- ---- Taking.
+
+pub receiving : (bytes rest : List ℕ) (old : Delivery) (a : ApplierState) (written kept sent : Option (List ℕ)) (result : Result (Unit {0}) ClientFault) → Takes old.intake.applier a bytes result
+    → Goes (standing old (bytes ++ rest) written kept sent) (stands rest written kept sent a old.is_broken)
+receiving bytes rest old a written kept sent result takes =
+    goes_by (standing old (bytes ++ rest) written kept sent) (stands rest written kept sent a old.is_broken) (Receives bytes result) (takes, refl, refl) tt
+
+pub waiting : (unread more now : List ℕ) (d : Delivery) (written kept before after : Option (List ℕ)) → now ≡ unread ++ more → Keeps before after
+    → Goes (standing d unread written kept before) (standing d now written kept after)
+waiting unread more now d written kept before after is keeps =
+    goes_by (standing d unread written kept before) (standing d now written kept after) Waits
+    (more, keeps, ap (λ (l : List ℕ). stands l written kept after d.intake.applier d.is_broken) is) tt
