@@ -8,6 +8,7 @@ mod ending;
 mod fault;
 mod help;
 mod level;
+mod log_watch;
 mod naming;
 mod questions;
 mod reports;
@@ -202,11 +203,11 @@ where
         + Sync
         + 'static,
 {
-    let told = begin_telling(host, rt.alloc())?;
+    let config = config_at(rt, asked.config)?;
+    let told = begin_telling(host, rt.alloc(), config.server().records)?;
     if service.has_input {
         begin_reading(host, rt.stdin(), &service.doors.input)?;
     }
-    let config = config_at(rt, asked.config)?;
     let opened = opened(rt, config, asked.numbers)?;
     let done = served::<Brand, R, _>(host, opened, service, &told, &rt.stdout());
     told.end(host);
@@ -214,11 +215,11 @@ where
 }
 
 /// What is told goes to the standard error by a thread of its own. Nobody joins that: it may wait for whoever reads it.
-fn begin_telling<R>(host: &R, alloc: Global) -> Result<Arc<Told, Global>, AllocError>
+fn begin_telling<R>(host: &R, alloc: Global, places: usize) -> Result<Arc<Told, Global>, AllocError>
 where
     R: Threads + Wait + Eprint + Copy + Send + 'static,
 {
-    let told = Arc::new(alloc, Told::new(alloc))?;
+    let told = Arc::new(alloc, Told::new(alloc, places))?;
     let theirs = Arc::try_clone(&told)?;
     let rt = *host;
     thread::spawn(host, move || write_told(&rt, &theirs))?;
@@ -407,6 +408,7 @@ where
         hub,
         doors: service.doors,
         input: &service.doors.input,
+        told,
         ends_with_input: service.ends_with_input,
     };
     let ended = run_input(&driven, output);

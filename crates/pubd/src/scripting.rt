@@ -19,4 +19,5 @@ pub use fault::{ScriptFault, ScriptFileFault};
 pub use file::{STANDARD_INPUT, Script, scripts_at};
 pub use input::{Driven, run_input};
 pub use input_lines::{InputLines, read_input};
+pub use outcome::Done;
 pub use steps::{ScriptEnd, run_steps};

@@ -1,5 +1,7 @@
 //! What is told on the standard error, by a thread of its own, so that nobody waits for whoever reads it.
 
+use crate::log_watch::LogWatch;
+use crate::scripting::Done;
 use std::alloc::{AllocError, Global};
 use std::collections::VecDeque;
 use std::fmt::Display;
@@ -18,6 +20,7 @@ const PATIENCE: u64 = 1;
 #[derive(Drop)]
 pub struct Told {
     alloc: Global,
+    log: LogWatch,
     untold: Mutex<Untold>,
     changed: Condvar,
 }
@@ -40,9 +43,11 @@ struct Batch {
 }
 
 impl Told {
-    pub fn new(alloc: Global) -> Self {
+    /// For a server whose log has so many places.
+    pub fn new(alloc: Global, places: usize) -> Self {
         Told {
             alloc,
+            log: LogWatch::new(places),
             untold: Mutex::new(Untold {
                 lines: VecDeque::new(alloc),
                 dropped: 0,
@@ -60,6 +65,15 @@ impl Told {
         untold.add(text);
         drop(untold);
         self.changed.notify_all();
+    }
+
+    /// A line was done: where it was the commit with which the log is nearly full, that is told.
+    pub fn done<R: Wait>(&self, rt: &R, done: Done) {
+        if let Done::Commit { place, .. } = done {
+            if let Some(nearly_full) = self.log.look(place) {
+                self.line(rt, nearly_full);
+            }
+        }
     }
 
     /// Nothing more is told: waits until all is written, for a second at most.

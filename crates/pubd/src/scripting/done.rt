@@ -90,11 +90,11 @@ fn tell_commit<L: LogName + SlotName, R: Wait>(
     answer: Answer,
     receipt: Receipt<L>,
 ) -> Done {
-    let end = receipt.end();
+    let (end, place) = (receipt.end(), receipt.place());
     hub.tell(rt, receipt);
     match answer {
         Answer::Session(fault) => Done::Refused(Refusal::Session(fault)),
-        _ => Done::Commit(end),
+        _ => Done::Commit { end, place },
     }
 }
 

@@ -11,6 +11,7 @@ use super::refusal::{Refusal, Unmet};
 use super::step::{Await, Step};
 use super::steps::{ScriptEnd, do_step};
 use crate::ending::Doors;
+use crate::telling::Told;
 use hub::Hub;
 use schedule::{BadLine, LineRefusal, Sessions};
 use shared_log::LogName;
@@ -31,6 +32,7 @@ pub struct Driven<'a, L: LogName + SlotName, R> {
     pub hub: &'a Hub<L>,
     pub doors: &'a Doors,
     pub input: &'a InputLines,
+    pub told: &'a Told,
     /// Whether the end of the input is that of the server.
     pub ends_with_input: bool,
 }
@@ -82,6 +84,7 @@ fn answer_lines<L: LogName + SlotName, R: Wait + Clock, O: Print>(
             return Ok(ScriptEnd::LastLine);
         };
         let done = do_pending(driven, sessions, &mut kept, &pending)?;
+        driven.told.done(driven.rt, done);
         println!(output; "{done}").map_err(ScriptFault::Answers)?;
         if matches!(done, Done::End) {
             return Ok(ScriptEnd::EndLine);

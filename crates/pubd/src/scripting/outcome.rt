@@ -8,8 +8,8 @@ use std::fmt;
 pub enum Done {
     /// A session's line was done.
     Line,
-    /// A transaction was committed, whose record ends at this position.
-    Commit(u64),
+    /// A transaction was committed, whose record ends at this position, and is the log's of this place.
+    Commit { end: u64, place: usize },
     /// A stream was steered, or waited for.
     Steered,
     Refused(Refusal),
@@ -28,7 +28,7 @@ impl fmt::Display for Done {
     fn fmt<W: fmt::Write>(&self, f: &mut fmt::Formatter<W>) -> fmt::Result {
         match self {
             Done::Refused(refusal) => write!(f, "{refusal}"),
-            Done::Commit(end) => write!(f, "ok {:X}/{:X}", end >> 32, end & 0xFFFF_FFFF),
+            Done::Commit { end, .. } => write!(f, "ok {:X}/{:X}", end >> 32, end & 0xFFFF_FFFF),
             Done::Line | Done::Steered | Done::End => f.write_str("ok"),
         }
     }

@@ -57,6 +57,7 @@ fn do_steps<L: LogName + SlotName, R: Wait + Clock>(
         if matches!(done, Done::End) {
             return Ok(ScriptEnd::EndLine);
         }
+        told.done(rt, done);
         if done.is_told() {
             told.line(rt, format_args!("{name} {} {done}", each.line));
         }
