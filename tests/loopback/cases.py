@@ -62,7 +62,11 @@ from limits import (
     what_is_told_of_an_address_is_bounded,
     why_a_connection_is_not_taken_is_told,
 )
-from large import a_stream_whose_chunks_run_short_is_told_of, a_transaction_that_is_too_large_is_passed_once_it_is_undone
+from large import (
+    a_log_that_is_nearly_full_is_told_of,
+    a_stream_whose_chunks_run_short_is_told_of,
+    a_transaction_that_is_too_large_is_passed_once_it_is_undone,
+)
 from link import Link
 from resuming import (
     a_refusal_for_good_ends_it,
@@ -186,6 +190,8 @@ def under_pressure(pubd, what, user):
     wrong = []
     for most in range(3, 21):
         with Server(pubd, CONNECTIONS, user=user) as server:
+            # Once one is served, the threads that take connections are there.
+            Connection(server.port).close()
             server.limit(what, most)
             clients = [Connection(server.port, says_nothing=True) for _ in range(24)]
             for client in clients:
@@ -395,6 +401,7 @@ ALL = [
     a_transaction_that_is_too_large_ends_its_stream,
     a_transaction_that_is_too_large_is_passed_once_it_is_undone,
     a_stream_whose_chunks_run_short_is_told_of,
+    a_log_that_is_nearly_full_is_told_of,
     two_followers_print_what_a_script_commits,
     sixteen_streams_tell_the_same_of_eight_scripts,
     sixteen_clients_at_sixteen_slots,

@@ -8,7 +8,7 @@ from connection import Connection, position
 from server import CONFIGURATION
 
 sys.path.insert(0, str(pathlib.Path(__file__).resolve().parent.parent.parent / "examples" / "driven"))
-from driven import Publisher
+from driven import Publisher, Refused
 
 # More rows than the chunks of a stream have room for, each of which holds two.
 ROWS = 140
@@ -79,3 +79,26 @@ def a_stream_whose_chunks_run_short_is_told_of(pubd, subcat):
     # A chunk of the small transaction may not have come back yet.
     due = r"pubd: connection 1: [34] of its stream's 64 chunks are free: transactions in progress fill the others"
     return wrong + [f"it tells {told}"] * (len(told) != 1 or not re.fullmatch(due, told[0]))
+
+
+def a_log_that_is_nearly_full_is_told_of(pubd, subcat):
+    """Once, by the commit whose record is the first behind nine tenths of the places; then it is full, and a change is refused."""
+    wrong = []
+    for places, first in ((20, 9), (21, 10), (2, 1)):
+        with tempfile.TemporaryDirectory() as folder, tempfile.TemporaryFile("w+") as errors:
+            configuration = pathlib.Path(folder) / "small.toml"
+            configuration.write_text(CONFIGURATION.read_text().replace("records = 65536", f"records = {places}"))
+            with Publisher(pubd, configuration, errors=errors) as publisher:
+                for key in range(places // 2):
+                    publisher.commit(f"insert public.item ({key},'b',7)", time=6)
+                try:
+                    publisher.commit("insert public.item (1000,'b',7)", time=6)
+                    wrong.append(f"{places} records have room for more")
+                except Refused as refused:
+                    wrong += [f"more is refused by {refused.code}"] * (refused.code != "S7")
+                publisher.end()
+            errors.seek(0)
+            told = [line for line in errors.read().splitlines() if "nearly full" in line]
+        due = f"pubd: the log is nearly full: {2 * first} of its {places} records are there; once all are, changes are refused by S7"
+        wrong += [f"of {places} records it tells {told}"] * (told != [due])
+    return wrong

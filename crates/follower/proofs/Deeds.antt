@@ -117,10 +117,10 @@ pub none_lost : (printed : List Published) (old begun : Standing) (deeds : List 
     → GainedAll relation (before printed begun.applier.subscriber) (received_bytes deeds) items (before (printed ++ printed_in begun deeds now run) now.applier.subscriber)
 none_lost printed old begun deeds now run relation items more connects are fit forward e =
     let rested : (a : ApplierState) → a ≡ applier_at_connection old.applier → HasTaken (before printed a.subscriber) (with_printed printed a) []
-        = λ a is. subst (λ (b : ApplierState). HasTaken (before printed b.subscriber) (with_printed printed b) []) (sym is)
-          (record { reached = reached_none (before printed (applier_at_connection old.applier).subscriber) []; waits = refl; sound = refl }) in
+    = λ a is. subst (λ (b : ApplierState). HasTaken (before printed b.subscriber) (with_printed printed b) []) (sym is)
+    (record { reached = reached_none (before printed (applier_at_connection old.applier).subscriber) []; waits = refl; sound = refl }) in
     let rests : (a : ApplierState) → a ≡ applier_at_connection old.applier → before printed a.subscriber ≡ subscriber_at_rest a.subscriber.position (printed ++ a.subscriber.applied)
-        = λ a is. subst (λ (b : ApplierState). before printed b.subscriber ≡ subscriber_at_rest b.subscriber.position (printed ++ b.subscriber.applied)) (sym is) refl in
+    = λ a is. subst (λ (b : ApplierState). before printed b.subscriber ≡ subscriber_at_rest b.subscriber.position (printed ++ b.subscriber.applied)) (sym is) refl in
     let is = ap applier_of connects in
     let base = before printed begun.applier.subscriber in
     all_gained base (with_printed (printed ++ printed_in begun deeds now run) now.applier) (received_bytes deeds) (rests begun.applier is) (keeps base [] printed begun deeds now run are (rested begun.applier is)) relation items more fit forward e

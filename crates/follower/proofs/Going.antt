@@ -1,6 +1,6 @@
 -- One deed behind the other.
 use Rattle.std.specs.Prelude.{OnOk, OnErr}
-use Rattle.std.proofs.Common.{◌≡◌, ◌⊎◌, inl, inr, ℕ, Bool, true, false, List, [], ◌∷◌, ◌++◌, Option, Result, Ok, Err, refl, sym, ap, subst, ◌∙◌, length, take}
+use Rattle.std.proofs.Common.{◌≡◌, ◌⊎◌, inl, inr, ℕ, Bool, List, [], ◌∷◌, ◌++◌, Option, Result, Ok, Err, refl, sym, ap, subst, ◌∙◌, take}
 use Rattle.std.specs.List.{AllByRecursion}
 use Rattle.std.specs.Io.KnownBytes.{Appends, Keeps}
 use Rattle.frames.specs.Frame.{frame}
@@ -9,7 +9,7 @@ use Rattle.client.specs.declared.fault.ClientFault.{ClientFault}
 use Rattle.client.specs.Taking.{ApplierState, Takes}
 use Rattle.follower.specs.Once.{applier_without_applied}
 use Rattle.follower.specs.declared.delivery.Delivery.{Delivery}
-use Rattle.follower.specs.Standing.{Standing, Deed, Asks, Connects, Waits, Receives, Prints, Sums, Breaks, Tells, Ends, Does, DoesPrint, DoesBreak, DoesSend, Runs, IsOfAStream, Goes, HandsOver, FailsToHand, standing, status_at}
+use Rattle.follower.specs.Standing.{Standing, Deed, Waits, Receives, Prints, Sums, Breaks, Tells, Ends, Does, Runs, IsOfAStream, Goes, HandsOver, FailsToHand, standing, status_at}
 
 runs_then : (a : Standing) (ds es : List Deed) (b c : Standing) → Runs a ds b → Runs b es c → Runs a (ds ++ es) c
 runs_then a [] es b c p q = subst (λ (s : Standing). Runs s es c) p q
@@ -82,16 +82,18 @@ failing {V} contents keeping lines unread old ready handed before after sent sam
 summed : (lines unread : List ℕ) (old handed : Delivery) (before after before_kept kept sent : Option (List ℕ)) → old.intake.applier.subscriber.applied ≡ [] → handed.intake ≡ old.intake
     → HandsOver lines old.is_broken handed.is_broken before after kept → Goes (standing old unread before before_kept sent) (standing handed unread after kept sent)
 summed lines unread old handed before after before_kept kept sent none same hands =
-    goes_by (standing old unread before before_kept sent) (standing handed unread after kept sent) (Sums lines)
-    (none, record {
-      sound = hands.sound;
-      applier = ap (λ i. i.applier) same ∙ ap (λ l. record old.intake.applier { subscriber = record old.intake.applier.subscriber { applied = l } }) none;
-      unread = refl;
-      written = hands.written;
-      kept = hands.kept;
-      sent = refl;
-      still = hands.still;
-    }) tt
+    goes_by (standing old unread before before_kept sent) (standing handed unread after kept sent) (Sums lines) (
+      none,
+      record {
+        sound = hands.sound;
+        applier = ap (λ i. i.applier) same ∙ ap (λ l. record old.intake.applier { subscriber = record old.intake.applier.subscriber { applied = l } }) none;
+        unread = refl;
+        written = hands.written;
+        kept = hands.kept;
+        sent = refl;
+        still = hands.still;
+      },
+    ) tt
 
 pub summing : {V T E : Type 0} → (contents keeping : V → Option (List ℕ)) (lines unread : List ℕ) (old handed : Delivery) (before after : V) (sent : Option (List ℕ)) (result : Result T E)
     → old.intake.applier.subscriber.applied ≡ [] → handed.intake ≡ old.intake

@@ -1,8 +1,7 @@
 -- All that is done with an intake over its connections, one deed after the other.
-use Rattle.std.specs.Prelude.{◌≡◌, ℕ, false, List, [], ◌∷◌, ◌++◌, None, Option, Ok, Err}
+use Rattle.std.specs.Prelude.{ℕ, false, List, [], ◌∷◌, ◌++◌, None, Option, Ok, Err}
 use Rattle.pgoutput.specs.declared.published.Published.{Published}
 use Rattle.client.specs.Subscriber.{subscriber_at_rest}
-use Rattle.client.specs.Taking.{ApplierState}
 use Rattle.follower.specs.Standing.{Standing, Deed, Asks, Connects, Waits, Receives, Prints, Sums, Breaks, Tells, Ends, Runs}
 
 -- before anything is done

@@ -1,4 +1,4 @@
-use Rattle.std.proofs.Common.{◌∙◌, ap}
+use Rattle.std.proofs.Common.{ap}
 use Rattle.follower.proofs.Going.{failing, printing}
 use Rattle.follower.specs.declared.delivery.Delivery.{Delivery}
 use Rattle.follower.proofs.delivery.Delivery.print.Goals as goal
