@@ -88,9 +88,9 @@ promised_first old answered asked before between turned after promised (early, w
     let P : List ℕ → Type 0 = λ l. Appends before after l in
     (more ++ (new ++ late), subst P all (Appends-trans before between after early ((asked.sender.held ++ new) ++ late) p (Appends-trans between turned after (asked.sender.held ++ new) late s r)))
 
-pub if_ok : {T E : Type 0} (P : Type 0) (r : Result T E) → P → OnOk r P
-if_ok P (Ok done) is = is
-if_ok P (Err fault) is = tt
+pub ok_so : {T E P Q : Type 0} (r : Result T E) → OnOk r P → (P → Q) → OnOk r Q
+ok_so (Ok done) is so = so is
+ok_so (Err fault) is so = tt
 
 -- what a walsender gave goes on with its stream
 pub gave_on : {L : Type 0} (a b : Walsender L) (before after : Option (List ℕ)) (given : List ℕ) → b.reader ≡ a.reader → Gives given a b → Appends before after given → StreamsOn a b before after

@@ -1,19 +1,41 @@
 -- Turns of a stream, one behind the other.
-use Rattle.std.proofs.Common.{◌≡◌, ◌⊎◌, ℕ, true, false, List, [], ◌∷◌, ◌++◌, Result, Ok, Err, inl, inr, refl, sym, ap, subst}
+use Rattle.std.proofs.Common.{◌≡◌, ◌⊎◌, ℕ, true, false, List, [], ◌∷◌, ◌++◌, Result, Ok, Err, inl, inr, refl, sym, ap, subst, ◌∙◌}
 use Rattle.std.specs.Result.{IsErr, is_err}
 use Rattle.std.specs.declared.option.Option.{Option}
 use Rattle.slots.specs.declared.step.View.{View}
 use Rattle.walsender.specs.Sending.{SenderState}
 use Rattle.std.specs.Io.KnownBytes.{Appends}
 use Rattle.wal.specs.declared.record.Record.{Record}
+use mathlib.Core.List.{IsPrefix}
+use Rattle.shared_log.specs.Fronts.{settled_records}
 use Rattle.shared_log.specs.Readers.{seen_of}
+use Rattle.shared_log.specs.declared.reader.LogReader.{LogReader}
+use Rattle.wal.specs.Log.{end_of}
+use Rattle.walsender.specs.Turning.{fetched_from}
 use Rattle.server.specs.declared.connection.Phase.TheVariants as phases
 use Rattle.walsender.specs.declared.walsender.Walsender.{Walsender}
 use Rattle.walsender.specs.Serving.{IsServing, WritesFirst}
 use Rattle.connections.specs.declared.inbox.Work.{Work}
 use Rattle.hub.specs.Streams.{HasLearnt, StreamsOn, keepalives}
-use Rattle.hub.specs.Turns.{Answers, Confirms, Ended, EndsTurns, LeavesSlot, Standing, TakesTurns, Turn, Turns, standing}
+use Rattle.hub.specs.Turns.{Answers, Confirms, Ended, EndsTurns, LeavesSlot, ReadsWhole, Standing, TakesTurns, Turn, Turns, standing}
 use Rattle.hub.proofs.Streams.{learnt, one_more}
+
+-- A turn was all that read: what was done before and after it read nothing.
+pub read_whole : {L : Type 0} (old asked turned new : Walsender L) → asked.sender.position ≡ old.sender.position → asked.reader ≡ old.reader → IsPrefix (settled_records turned.reader.told) (seen_of turned.reader)
+    → turned.sender.position ≡ end_of asked.sender.position (fetched_from asked.reader.place (seen_of turned.reader)) → new.sender.position ≡ turned.sender.position → new.reader ≡ turned.reader → new.sender.held ≡ [] → ReadsWhole old new
+read_whole old asked turned new before at sees read after same empty =
+    let From : ℕ → Type 0 = λ p. turned.sender.position ≡ end_of p (fetched_from asked.reader.place (seen_of turned.reader)) in
+    let At : LogReader _ → Type 0 = λ r. turned.sender.position ≡ end_of old.sender.position (fetched_from r.place (seen_of turned.reader)) in
+    let Seen : LogReader _ → Type 0 = λ r. turned.sender.position ≡ end_of old.sender.position (fetched_from old.reader.place (seen_of r)) in
+    let Sees : LogReader _ → Type 0 = λ r. IsPrefix (settled_records r.told) (seen_of r) in
+    record { sees = subst Sees (sym same) sees; reads = after ∙ subst Seen (sym same) (subst At at (subst From before read)); whole = empty }
+
+-- one that was told of a commit before it
+told_whole : {L : Type 0} (old informed new : Walsender L) → HasLearnt old informed → ReadsWhole informed new → ReadsWhole old new
+told_whole old informed new is reads =
+    let From : SenderState → Type 0 = λ s. new.sender.position ≡ end_of s.position (fetched_from informed.reader.place (seen_of new.reader)) in
+    let At : ℕ → Type 0 = λ place. new.sender.position ≡ end_of old.sender.position (fetched_from place (seen_of new.reader)) in
+    record { sees = reads.sees; reads = subst At is.place (subst From is.sender reads.reads); whole = reads.whole }
 
 -- the turn of a stream that was told of a commit before it
 pub told_turn : {L : Type 0} (place here : ℕ) (work : Work) (old informed new : Walsender L) (seat seat_then seat_after : View) (before after : Option (List ℕ)) → HasLearnt old informed → seat_then ≡ seat → here ≡ place
@@ -28,15 +50,15 @@ told_turn place here work old informed new seat seat_then seat_after before afte
 
 -- what it answered, likewise
 pub told_answers : {L : Type 0} (work : Work) (old informed new : Walsender L) (seat seat_then seat_after : View) (before after : Option (List ℕ)) → HasLearnt old informed
-    → (work.phase ≡ phases.Closed) ⊎ WritesFirst (informed.sender.held ++ keepalives informed.sender.position work.asked) informed before after → Answers work (standing old seat before) (standing new seat_after after)
+    → (work.phase ≡ phases.Closed) ⊎ (WritesFirst (informed.sender.held ++ keepalives informed.sender.position work.asked) informed before after × ReadsWhole informed new) → Answers work (standing old seat before) (standing new seat_after after)
 told_answers work old informed new seat seat_then seat_after before after is (inl over) = inl over
-told_answers work old informed new seat seat_then seat_after before after is (inr first) = inr (λ written serving.
+told_answers work old informed new seat seat_then seat_after before after is (inr (first, reads)) = inr (λ written serving.
     let Seen : List Record → Type 0 = λ log. IsServing log old.reader.place written old.sender in
     let At : ℕ → Type 0 = λ place. IsServing (seen_of informed.reader) place written old.sender in
     let By : SenderState → Type 0 = λ s. IsServing (seen_of informed.reader) informed.reader.place written s in
     let (more, appended) = first written (subst By (sym is.sender) (subst At (sym is.place) (subst Seen (sym is.seen) serving))) in
     let Wrote : SenderState → Type 0 = λ s. Appends before after ((s.held ++ keepalives s.position work.asked) ++ more) in
-    (more, subst Wrote is.sender appended))
+    (more, subst Wrote is.sender appended), told_whole old informed new is reads)
 
 -- one turn more behind others, all of which went well
 turns_more : {D L : Type 0} (told : D → Work → D → Type 0) (place : ℕ) (last : Work → Standing L → Standing L → Type 0) (first : Work) (works : List Work) (work : Work) (desk given after : D) (old between new : Standing L)

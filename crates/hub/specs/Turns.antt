@@ -1,11 +1,16 @@
 -- What a stream does of the work that its connection brings, turn by turn, and what that leaves of its slot.
 use Rattle.std.specs.Prelude.{◌≡◌, ◌⊎◌, ℕ, List, [], ◌∷◌, ◌++◌, Option, Some, None, Result, Ok, Err, max, min}
+use mathlib.Core.List.{IsPrefix}
+use Rattle.shared_log.specs.Fronts.{settled_records}
+use Rattle.shared_log.specs.Readers.{seen_of}
+use Rattle.wal.specs.Log.{end_of}
 use Rattle.slots.specs.Seats.{DidAt}
 use Rattle.slots.specs.declared.step.SlotKind.TheVariants.{Raise}
 use Rattle.slots.specs.declared.step.View.{View}
 use Rattle.server.specs.declared.connection.Phase.TheVariants as phases
 use Rattle.walsender.specs.declared.walsender.Walsender.{Walsender}
 use Rattle.walsender.specs.Serving.{WritesFirst}
+use Rattle.walsender.specs.Turning.{fetched_from}
 use Rattle.walsender.specs.declared.turn_fault.TurnFault.{TurnFault}
 use Rattle.connections.specs.declared.inbox.Work.{Work}
 use Rattle.hub.specs.Streams.{StreamsOn, keepalives}
@@ -28,10 +33,18 @@ standing walsender seat written = record { walsender = walsender; seat = seat; w
 abbrev pub Turn : {L : Type 0} → ℕ → Work → Standing L → Standing L → Type 0
 Turn place work old new = Confirms work.flushed old.walsender.sender.position place old.seat new.seat × StreamsOn old.walsender new.walsender old.written new.written
 
--- It went well: what was held was written, and then a keepalive for each status that asked, before all else, unless the connection is over.
+-- Its reader sees all that it was told of. What it sees from its place on was read, as many records as a turn takes, and nothing is held back.
+pub record ReadsWhole {L : Type 0} (old new : Walsender L) : Type 0 where
+  pub sees : IsPrefix (settled_records new.reader.told) (seen_of new.reader)
+  pub reads : new.sender.position ≡ end_of old.sender.position (fetched_from old.reader.place (seen_of new.reader))
+  pub whole : new.sender.held ≡ []
+
+-- It went well, unless the connection is over: what was held was written, and then a keepalive for each status that asked, before all else; and
+-- all that could be read was read and written.
 abbrev pub Answers : {L : Type 0} → Work → Standing L → Standing L → Type 0
 Answers work old new =
-    (work.phase ≡ phases.Closed) ⊎ WritesFirst (old.walsender.sender.held ++ keepalives old.walsender.sender.position work.asked) old.walsender old.written new.written
+    (work.phase ≡ phases.Closed)
+    ⊎ (WritesFirst (old.walsender.sender.held ++ keepalives old.walsender.sender.position work.asked) old.walsender old.written new.written × ReadsWhole old.walsender new.walsender)
 
 -- what is known of the last turn of a stream that ended so
 abbrev pub Ended : {L T E : Type 0} → Result T E → Work → Standing L → Standing L → Type 0

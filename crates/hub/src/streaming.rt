@@ -13,7 +13,7 @@ ghost use Rattle.wal.specs.declared.record.Record.{Record};
 ghost use Rattle.walsender.specs.Serving.{Gives, Serves, StaysOn, WritesFirst};
 ghost use Rattle.hub.specs.declared.streaming.TheConstants.{CLOCK};
 ghost use Rattle.hub.specs.Streams.{HasLearnt, StreamsOn, keepalives};
-ghost use Rattle.hub.specs.Turns.{Confirms};
+ghost use Rattle.hub.specs.Turns.{Confirms, ReadsWhole};
 
 use crate::demand::ChunksNeeded;
 use crate::grant::StreamGrant;
@@ -133,10 +133,11 @@ impl<L: LogName + SlotName> Stream<L> {
         ensures lease { self.new.hold.lease ≡ self.old.hold.lease }
         ensures answers { OnOk result
             ((work.now.phase ≡ Phase.Closed)
-            ⊎ WritesFirst
+            ⊎ (WritesFirst
             (self.old.walsender.sender.held
             ++ keepalives self.old.walsender.sender.position work.now.asked)
-            self.old.walsender (W.contents to.old) (W.contents to.new)) }
+            self.old.walsender (W.contents to.old) (W.contents to.new)
+            × ReadsWhole self.old.walsender self.new.walsender)) }
     {
         self.confirm_any(slots, work.flushed);
         if work.phase == Phase::Closed {
@@ -152,6 +153,7 @@ impl<L: LogName + SlotName> Stream<L> {
     fn ask_if(&mut self, is_silent: bool) -> Result<(), SendFault>
         ensures serves { StaysOn self.old.walsender self.new.walsender }
         ensures reader { self.new.walsender.reader ≡ self.old.walsender.reader }
+        ensures position { self.new.walsender.sender.position ≡ self.old.walsender.sender.position }
         ensures hold { self.new.hold ≡ self.old.hold }
         ensures held { (more : List ℕ)
             × (self.new.walsender.sender.held ≡ self.old.walsender.sender.held ++ more) }
@@ -167,6 +169,10 @@ impl<L: LogName + SlotName> Stream<L> {
     fn tell_position<W: Write>(&mut self, to: &mut W) -> Result<(), TurnFault>
         ensures serves { StreamsOn self.old.walsender self.new.walsender (W.contents to.old)
             (W.contents to.new) }
+        ensures reader { self.new.walsender.reader ≡ self.old.walsender.reader }
+        ensures position { self.new.walsender.sender.position ≡ self.old.walsender.sender.position }
+        ensures whole { self.old.walsender.sender.held ≡ [] →
+            OnOk result (self.new.walsender.sender.held ≡ []) }
         ensures hold { self.new.hold ≡ self.old.hold }
     {
         let position = self.walsender.position();
@@ -216,6 +222,8 @@ impl<L: LogName + SlotName> Stream<L> {
             × Appends (W.contents to.old) (W.contents to.new) given) }
         ensures serves { StreamsOn self.old.walsender self.new.walsender (W.contents to.old)
             (W.contents to.new) }
+        ensures reader { self.new.walsender.reader ≡ self.old.walsender.reader }
+        ensures position { self.new.walsender.sender.position ≡ self.old.walsender.sender.position }
         ensures hold { self.new.hold ≡ self.old.hold }
     {
         let mut due = count;

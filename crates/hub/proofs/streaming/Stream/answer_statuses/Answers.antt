@@ -8,6 +8,7 @@ use Rattle.hub.proofs.streaming.Stream.answer_statuses.Goals as goal
 pub loop-due-init : goal.loop-due-init
 loop-due-init g c = record {
   position = refl;
+  reader = refl;
   hold = refl;
   kept = (0, omega arith, nothing_kept c.args.self.now.walsender.sender.held c.args.self.now.walsender.sender.position (g.W.Write.contents c.args.to.now));
   serves = same_on c.args.self.now.walsender c.args.self.now.walsender (g.W.Write.contents c.args.to.now) refl;
@@ -41,6 +42,7 @@ loop-due-preserved g c =
     let more = c.in_ok-keep_alive.ensures.held ∙ ap (λ (p : ℕ). looped.sender.held ++ keepalives p MOST_KEEPALIVES) c.loop-due.invariant.position in
     record {
       position = ap (λ (s : SenderState). s.position) c.write_held.ensures.rest ∙ c.keep_alive.ensures.position ∙ c.loop-due.invariant.position;
+      reader = c.write_held.ensures.reader ∙ c.keep_alive.ensures.reader ∙ c.loop-due.invariant.reader;
       hold = c.keep_alive.ensures.hold ∙ c.loop-due.invariant.hold;
       kept = (
         done + MOST_KEEPALIVES,

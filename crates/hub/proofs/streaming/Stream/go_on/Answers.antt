@@ -1,7 +1,9 @@
-use Rattle.std.proofs.Common.{◌++◌, inr, subst}
+use Rattle.std.proofs.Common.{◌≡◌, ℕ, List, ◌++◌, ◌∙◌, ap, refl, inr, subst}
+use Rattle.walsender.specs.Sending.{SenderState}
 use Rattle.walsender.specs.declared.walsender.Walsender.{Walsender}
 use Rattle.hub.specs.Streams.{keepalives}
-use Rattle.hub.proofs.Streams.{Gave, if_ok, kept_on, one_more, promised_first, same_on}
+use Rattle.hub.proofs.Streams.{Gave, ok_so, kept_on, one_more, promised_first, same_on}
+use Rattle.hub.proofs.Turns.{read_whole}
 use Rattle.hub.proofs.streaming.Stream.go_on.Goals as goal
 
 pub returns-then-eq-clause-serves : goal.returns-then-eq-clause-serves
@@ -70,4 +72,9 @@ returns-clause-answers g c =
     let P : Walsender _ → Type 0 = λ w. Gave (w.sender.held ++ keepalives w.sender.position count) answered.sender.held before between in
     let (given, goes, appended) = c.tell_position.ensures.serves in
     let first = promised_first old answered asked before between turned after (old.sender.held ++ keepalives old.sender.position count) (subst P same c.in_ok-answer_statuses.ensures.kept) held c.ask_if.ensures.held c.in_ok-turn.ensures.first (given, appended) in
-    if_ok _ c.tell_position.result (inr first)
+    let turn = c.in_ok-turn.ensures in
+    let (out, gave, _) = turn.reads in
+    let reads = read_whole old asked c.turn.new.self c.tell_position.new.self.walsender (c.ask_if.ensures.position ∙ c.answer_statuses.ensures.position ∙ ap (λ (w : Walsender _). w.sender.position) same)
+        (c.ask_if.ensures.reader ∙ c.answer_statuses.ensures.reader ∙ ap (λ (w : Walsender _). w.reader) same) (turn.sees refl) (ap (λ (s : SenderState). s.position) gave.rest ∙ gave.read.position) c.tell_position.ensures.position
+        c.tell_position.ensures.reader in
+    ok_so c.tell_position.result (c.tell_position.ensures.whole turn.sent) (λ empty. inr (first, reads empty))
