@@ -15,6 +15,7 @@ use Rattle.walsender.specs.Turning.{fetched_from}
 use Rattle.server.specs.declared.connection.Phase.TheVariants as phases
 use Rattle.walsender.specs.declared.walsender.Walsender.{Walsender}
 use Rattle.walsender.specs.Serving.{IsServing, WritesFirst}
+use Rattle.connections.specs.declared.fault.ConnectionEnd.{ConnectionEnd}
 use Rattle.connections.specs.declared.inbox.Work.{Work}
 use Rattle.hub.specs.Streams.{HasLearnt, StreamsOn, keepalives}
 use Rattle.hub.specs.Turns.{Answers, Confirms, Ended, EndsTurns, LeavesSlot, ReadsWhole, Standing, TakesTurns, Turn, Turns, standing}
@@ -88,17 +89,17 @@ ended_with_fault (Err fault) work old new is = tt
 -- ---- the end of a stream
 
 -- its client asked for it
-pub left_at_end : {D L T E : Type 0} (told : D → Work → D → Type 0) (place : ℕ) (first : Work) (r : Result T E) (desk after : D) (old : Standing L) (position : ℕ) (seat : View) → is_err r ≡ false
-    → EndsTurns told place first desk old after position seat → LeavesSlot told place first r desk old after seat
-left_at_end told place first (Ok done) desk after old position seat ok (end, last, turns, read, same) = (end, last, turns, same)
+pub left_at_end : {D L : Type 0} (told : D → Work → D → Type 0) (place : ℕ) (first : Work) (r : Result (Unit {0}) ConnectionEnd) (desk after : D) (old : Standing L) (position : ℕ) (seat : View) → is_err r ≡ false
+    → EndsTurns told place first r desk old after position seat → LeavesSlot told place first r desk old after seat
+left_at_end told place first (Ok done) desk after old position seat ok (end, last, turns, read, same, by) = (end, last, turns, same, by)
 left_at_end told place first (Err over) desk after old position seat ok ends = absurd cc
 
 -- the connection is over
-pub left_at_close : {D L T E : Type 0} (told : D → Work → D → Type 0) (place here : ℕ) (first work : Work) (r : Result T E) (desk closed after : D) (old : Standing L) (position : ℕ) (seat seat_after : View) → is_err r ≡ true → here ≡ place
-    → EndsTurns told place first desk old closed position seat → told closed work after → Confirms work.flushed position here seat seat_after → LeavesSlot told place first r desk old after seat_after
+pub left_at_close : {D L : Type 0} (told : D → Work → D → Type 0) (place here : ℕ) (first work : Work) (r : Result (Unit {0}) ConnectionEnd) (desk closed after : D) (old : Standing L) (position : ℕ) (seat seat_after : View) → is_err r ≡ true → here ≡ place
+    → EndsTurns told place first r desk old closed position seat → told closed work after → Confirms work.flushed position here seat seat_after → LeavesSlot told place first r desk old after seat_after
 left_at_close told place here first work (Ok done) desk closed after old position seat seat_after err at ends gives confirmed = absurd cc
-left_at_close told place here first work (Err over) desk closed after old position seat seat_after err at (end, last, turns, read, same) gives confirmed =
+left_at_close told place here first work (Err over) desk closed after old position seat seat_after err at (end, last, turns, read, same, by) gives confirmed =
     let At : ℕ → Type 0 = λ p. Confirms work.flushed position p seat seat_after in
     let Read : ℕ → Type 0 = λ n. Confirms work.flushed n place seat seat_after in
     let From : View → Type 0 = λ v. Confirms work.flushed end.walsender.sender.position place v seat_after in
-    (end, last, closed, work, turns, gives, subst From same (subst Read read (subst At at confirmed)))
+    (end, last, closed, work, turns, gives, subst From same (subst Read read (subst At at confirmed)), by)

@@ -11,7 +11,13 @@ use Rattle.server.specs.declared.connection.Phase.TheVariants as phases
 use Rattle.walsender.specs.declared.walsender.Walsender.{Walsender}
 use Rattle.walsender.specs.Serving.{WritesFirst}
 use Rattle.walsender.specs.Turning.{fetched_from}
+use Rattle.walsender.specs.declared.fault.SendFault.TheVariants.{ArenaFull}
 use Rattle.walsender.specs.declared.turn_fault.TurnFault.{TurnFault}
+use Rattle.walsender.specs.declared.turn_fault.TurnFault.TheVariants as turns
+use Rattle.connections.specs.declared.fault.ConnectionEnd.{ConnectionEnd}
+use Rattle.connections.specs.declared.fault.ConnectionEnd.TheVariants as ends
+use Rattle.connections.specs.declared.words.Trouble.{Trouble}
+use Rattle.connections.specs.declared.words.Trouble.TheVariants as troubles
 use Rattle.connections.specs.declared.inbox.Work.{Work}
 use Rattle.hub.specs.Streams.{StreamsOn, keepalives}
 
@@ -60,14 +66,37 @@ Turns {D} {L} told place last first (work ∷ rest) desk old after new =
 abbrev pub TakesTurns : {D L : Type 0} → (D → Work → D → Type 0) → ℕ → (Work → Standing L → Standing L → Type 0) → Work → D → Standing L → D → Standing L → Type 0
 TakesTurns told place last first desk old after new = (works : List Work) × Turns told place last first works desk old after new
 
--- they were taken, up to this position and this seat, however the last one ended
-abbrev pub EndsTurns : {D L : Type 0} → (D → Work → D → Type 0) → ℕ → Work → D → Standing L → D → ℕ → View → Type 0
-EndsTurns {D} {L} told place first desk old after position seat =
-    (end : Standing L) × (last : Result Work TurnFault) × TakesTurns told place (Ended last) first desk old after end × (position ≡ end.walsender.sender.position) × (seat ≡ end.seat)
+-- how a connection ends whose stream's turn failed so
+abbrev pub end_of_fault : TurnFault → ConnectionEnd
+end_of_fault (turns.Write e) = ends.Client
+end_of_fault (turns.Sender ArenaFull) = ends.FullArena
+end_of_fault (turns.Sender fault) = ends.Memory
+end_of_fault turns.Memory = ends.Memory
+end_of_fault turns.NoEntry = ends.NoEntry
+end_of_fault turns.Stale = ends.NoEntry
 
--- What a stream leaves of its slot: all that came was confirmed in its turn. Where the connection is over, so was the last work, behind which nothing comes.
-abbrev pub LeavesSlot : {D L T E : Type 0} → (D → Work → D → Type 0) → ℕ → Work → Result T E → D → Standing L → D → View → Type 0
-LeavesSlot {D} {L} told place first (Ok done) desk old after seat = (end : Standing L) × (last : Result Work TurnFault) × TakesTurns told place (Ended last) first desk old after end × (seat ≡ end.seat)
+-- what its client is told of that, if it can still be
+abbrev pub trouble_of : ConnectionEnd → Option Trouble
+trouble_of ends.Memory = Some troubles.Memory
+trouble_of ends.FullArena = Some troubles.FullArena
+trouble_of ends.NoEntry = Some troubles.NoEntry
+trouble_of end = None
+
+-- How a stream ended whose last turn ended so: by that turn's fault; in order, where its client asked for that; or since its client is gone.
+abbrev pub EndsBy : Result Work TurnFault → Result (Unit {0}) ConnectionEnd → Type 0
+EndsBy (Err fault) ended = ended ≡ Err (end_of_fault fault)
+EndsBy (Ok last) (Ok done) = last.phase ≡ phases.Stopping
+EndsBy (Ok last) (Err end) = end ≡ ends.Client
+
+-- they were taken, up to this position and this seat, however the last one ended, and by that the stream ended
+abbrev pub EndsTurns : {D L : Type 0} → (D → Work → D → Type 0) → ℕ → Work → Result (Unit {0}) ConnectionEnd → D → Standing L → D → ℕ → View → Type 0
+EndsTurns {D} {L} told place first ended desk old after position seat =
+    (end : Standing L) × (last : Result Work TurnFault) × TakesTurns told place (Ended last) first desk old after end × (position ≡ end.walsender.sender.position) × (seat ≡ end.seat) × EndsBy last ended
+
+-- What a stream leaves of its slot, and by what it ended: all that came was confirmed in its turn. Where the connection is over, so was the last work, behind which nothing comes.
+abbrev pub LeavesSlot : {D L : Type 0} → (D → Work → D → Type 0) → ℕ → Work → Result (Unit {0}) ConnectionEnd → D → Standing L → D → View → Type 0
+LeavesSlot {D} {L} told place first (Ok done) desk old after seat =
+    (end : Standing L) × (last : Result Work TurnFault) × TakesTurns told place (Ended last) first desk old after end × (seat ≡ end.seat) × EndsBy last (Ok done)
 LeavesSlot {D} {L} told place first (Err over) desk old after seat =
     (end : Standing L) × (last : Result Work TurnFault) × (closed : D) × (work : Work) × TakesTurns told place (Ended last) first desk old closed end × told closed work after
-    × Confirms work.flushed end.walsender.sender.position place end.seat seat
+    × Confirms work.flushed end.walsender.sender.position place end.seat seat × EndsBy last (Err over)

@@ -1,8 +1,8 @@
 //! How a stream is written: turn by turn, as work comes, until something else is to be said or the connection is over.
 
-ghost use Rattle.std.specs.Prelude.{◌≡◌, OnOk};
+ghost use Rattle.std.specs.Prelude.{◌≡◌, IfErr, OnOk};
 ghost use Rattle.hub.specs.Streams.{StreamsOn, WordsBehind};
-ghost use Rattle.hub.specs.Turns.{Ended, EndsTurns, LeavesSlot, TakesTurns, standing};
+ghost use Rattle.hub.specs.Turns.{Ended, EndsBy, EndsTurns, LeavesSlot, TakesTurns, end_of_fault, standing, trouble_of};
 
 use crate::streaming::Stream;
 use crate::work_desk::WorkDesk;
@@ -46,12 +46,26 @@ fn write_to_end<L: LogName + SlotName, R: Wait, D: WorkDesk<L>, W: Write>(
     first: Work,
     to: &mut W,
 ) -> Result<(), ConnectionEnd>
-    ensures turns { EndsTurns D.told stream.old.hold.lease.place first desk.old
+    ensures turns { EndsTurns D.told stream.old.hold.lease.place first result desk.old
         (standing stream.old.walsender stream.old.hold.seat (W.contents to.old)) desk.new
         stream.new.walsender.sender.position stream.new.hold.seat }
     ensures lease { stream.new.hold.lease ≡ stream.old.hold.lease }
 {
-    match run(rt, desk, slots, stream, first, to) {
+    let last = run(rt, desk, slots, stream, first, to);
+    finish(stream, last, to)
+}
+
+/// Writes what is said behind the last turn of a stream, or why that failed.
+fn finish<L: LogName + SlotName, W: Write>(
+    stream: &mut Stream<L>,
+    last: Result<Work, TurnFault>,
+    to: &mut W,
+) -> Result<(), ConnectionEnd>
+    ensures by { EndsBy last result }
+    ensures position { stream.new.walsender.sender.position ≡ stream.old.walsender.sender.position }
+    ensures hold { stream.new.hold ≡ stream.old.hold }
+{
+    match last {
         Ok(last) => {
             say(&last, to)?;
             if last.phase == Phase::Stopping {
@@ -97,7 +111,9 @@ fn run<L: LogName + SlotName, R: Wait, D: WorkDesk<L>, W: Write>(
 }
 
 /// Writes the words of what was taken. The connection may be over behind them.
-pub(crate) fn say<W: Write>(work: &Work, to: &mut W) -> Result<(), ConnectionEnd> {
+pub(crate) fn say<W: Write>(work: &Work, to: &mut W) -> Result<(), ConnectionEnd>
+    ensures { IfErr result (λ end. end ≡ ConnectionEnd.Client) }
+{
     if to.write_all(work.said.as_slice()).is_err() || work.phase == Phase::Closed {
         return Err(ConnectionEnd::Client);
     }
@@ -124,7 +140,9 @@ fn tell<L: LogName + SlotName, W: Write>(
 }
 
 /// How the connection of a stream ends whose turn has failed so.
-fn end_of(fault: &TurnFault) -> ConnectionEnd {
+fn end_of(fault: &TurnFault) -> ConnectionEnd
+    ensures { result ≡ end_of_fault fault.now }
+{
     match fault {
         TurnFault::Write(_) => ConnectionEnd::Client,
         TurnFault::Sender(SendFault::ArenaFull) => ConnectionEnd::FullArena,
@@ -134,7 +152,9 @@ fn end_of(fault: &TurnFault) -> ConnectionEnd {
 }
 
 /// What the client is told, if it can still be.
-fn trouble_of(end: ConnectionEnd) -> Option<Trouble> {
+fn trouble_of(end: ConnectionEnd) -> Option<Trouble>
+    ensures { result ≡ trouble_of end }
+{
     match end {
         ConnectionEnd::Memory => Some(Trouble::Memory),
         ConnectionEnd::FullArena => Some(Trouble::FullArena),
