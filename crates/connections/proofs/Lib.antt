@@ -1,3 +1,3 @@
 pub mod Crossing
 pub mod Dropping
-pub mod Saying
+pub mod Writing

@@ -1,3 +1,4 @@
 pub mod Crowds
 pub mod Inboxes
 pub mod Reins
+pub mod Troubles

@@ -1,25 +1,29 @@
-//! The way from the writing thread of a connection to its socket.
+//! The way from the writing thread of a connection to its socket, or whatever stands for one.
+
+ghost use Rattle.std.specs.Prelude.{◌≡◌, true};
+ghost use Rattle.std.specs.Result.{is_err};
 
 use crate::fault::ConnectionEnd;
 use crate::line::Line;
 use std::io;
 use std::io::{ErrorKind, Write};
-use std::net::TcpStream;
 use std::sync::Wait;
 
 /// Writes to a client as long as it takes what is written, or is listened to in its stream: then its reading thread knows whether
 /// it is lost.
 #[derive(Drop)]
-pub struct Outlet<'h, S, R: Wait> {
+pub struct Outlet<'h, S, R: Wait, W: Write> {
     pub rt: &'h R,
     pub line: &'h Line<S>,
-    /// A write of it gives up once its client has taken nothing for as long as it may.
-    pub socket: &'h TcpStream,
+    /// Where it goes. A write to it gives up once the client has taken nothing for as long as it may.
+    pub to: W,
 }
 
-impl<'h, S, R: Wait> Outlet<'h, S, R> {
+impl<'h, S, R: Wait, W: Write> Outlet<'h, S, R, W> {
     /// Whether what failed so is to be tried again.
-    fn tries_again(&self, written: &io::Result<usize>) -> bool {
+    fn tries_again(&self, written: &io::Result<usize>) -> bool
+        ensures { result ≡ true → is_err written.now ≡ true }
+    {
         let Err(fault) = written else {
             return false;
         };
@@ -40,11 +44,12 @@ impl<'h, S, R: Wait> Outlet<'h, S, R> {
     }
 }
 
-impl<'h, S, R: Wait> Write for Outlet<'h, S, R> {
+impl<'h, S, R: Wait, W: Write> Write for Outlet<'h, S, R, W> {
+    ghost contents = { λ o. W.contents o.to };
+
     fn write(&mut self, buf: &[u8]) -> io::Result<usize> {
-        let mut to = self.socket;
         for _ in self.rt.forever() {
-            let written = to.write(buf);
+            let written = self.to.write(buf);
             if !self.tries_again(&written) {
                 return written;
             }

@@ -1,7 +1,8 @@
 //! What the server says of its own trouble.
 
-ghost use Rattle.std.specs.Prelude.{◌≡◌, IfOk, List, OnOk, length, ◌≤◌, ℕ};
+ghost use Rattle.std.specs.Prelude.{◌≡◌, ◌++◌, IfOk, OnOk, length, ◌≤◌};
 ghost use Rattle.std.specs.Io.KnownBytes.{Appends};
+ghost use Rattle.connections.specs.Troubles.{told_trouble, trouble_code, trouble_severity, trouble_text};
 
 use bytes::BytesMut;
 use frames::{Back, ErrorField, ErrorResponse, write_back};
@@ -24,7 +25,8 @@ pub enum Trouble {
 
 impl Trouble {
     fn code(self) -> &'static str
-        ensures { length result.now ≤ 40 }
+        ensures code { result.now ≡ trouble_code self }
+        ensures short { length result.now ≤ 40 }
     {
         match self {
             Trouble::Memory => "53200",
@@ -34,7 +36,8 @@ impl Trouble {
     }
 
     fn text(self) -> &'static str
-        ensures { length result.now ≤ 40 }
+        ensures text { result.now ≡ trouble_text self }
+        ensures short { length result.now ≤ 40 }
     {
         match self {
             Trouble::Memory => "out of memory",
@@ -45,7 +48,8 @@ impl Trouble {
     }
 
     fn severity(self) -> &'static str
-        ensures { length result.now ≤ 40 }
+        ensures severity { result.now ≡ trouble_severity self }
+        ensures short { length result.now ≤ 40 }
     {
         match self {
             Trouble::Memory | Trouble::FullArena | Trouble::NoEntry => "ERROR",
@@ -56,8 +60,7 @@ impl Trouble {
 
 /// Writes the ErrorResponse that tells it.
 pub fn write_trouble<W: Write>(alloc: Global, trouble: Trouble, to: &mut W) -> io::Result<()>
-    ensures { OnOk result
-        ((words : List ℕ) × Appends (W.contents to.old) (W.contents to.new) words) }
+    ensures { OnOk result (Appends (W.contents to.old) (W.contents to.new) (told_trouble trouble)) }
 {
     let mut frame = BytesMut::new(alloc);
     if say_trouble(alloc, trouble, &mut frame).is_err() {
@@ -66,7 +69,10 @@ pub fn write_trouble<W: Write>(alloc: Global, trouble: Trouble, to: &mut W) -> i
     to.write_all(frame.as_slice())
 }
 
-fn say_trouble(alloc: Global, trouble: Trouble, out: &mut BytesMut) -> Result<(), AllocError> {
+#[tactic(auto, unfolding(crate::specs::Troubles::told_trouble, pqformat::specs::Fields::int32))]
+fn say_trouble(alloc: Global, trouble: Trouble, out: &mut BytesMut) -> Result<(), AllocError>
+    ensures { OnOk result (out.new.items ≡ out.old.items ++ told_trouble trouble) }
+{
     let severity = field(alloc, b'S', trouble.severity())?;
     let untranslated = field(alloc, b'V', trouble.severity())?;
     let code = field(alloc, b'C', trouble.code())?;
