@@ -1,5 +1,5 @@
 -- A stream that goes on call by call.
-use Rattle.std.proofs.Common.{◌≡◌, ◌+◌, ℕ, zero, suc, false, List, [], ◌++◌, Result, Ok, Err, OnOk, inl, inr, refl, ap, sym, subst, ◌∙◌, append_assoc, arith}
+use Rattle.std.proofs.Common.{◌≡◌, ◌+◌, ℕ, zero, suc, false, List, [], ◌++◌, Result, Ok, Err, OnOk, inl, refl, ap, sym, subst, ◌∙◌, append_assoc, arith}
 use Rattle.std.proofs.lemmas.List.{append-nil}
 use Rattle.std.specs.declared.option.Option.{Option}
 use Rattle.std.specs.Io.KnownBytes.{Appends}
@@ -105,11 +105,5 @@ gave_on a b before after given same gives appended = (
 -- ---- the end of a stream
 
 -- nothing is said
-pub nothing_behind : {L : Type 0} (a : Walsender L) (before : Option (List ℕ)) → WordsBehind a a before before
-nothing_behind a before = ([], [], λ (log : List Record) (written : List ℕ) serving. nothing_given log a.reader.place written a.sender serving, inl refl, Appends-nil before)
-
--- all that was held was written, and then something else, if it could be
-pub words_behind : {L : Type 0} {T E : Type 0} (a b : Walsender L) (before between after : Option (List ℕ)) (given : List ℕ) (r : Result T E) → Gives given a b → b.sender.held ≡ [] → Appends before between given
-    → OnOk r ((words : List ℕ) × Appends between after words) → OnOk r (WordsBehind a b before after)
-words_behind a b before between after given (Ok done) gives empty p (words, q) = (given, words, gives, inr empty, Appends-trans before between after given words p q)
-words_behind a b before between after given (Err fault) gives empty p told = tt
+pub nothing_behind : {L : Type 0} (a : Walsender L) (before : Option (List ℕ)) → WordsBehind [] a a before before
+nothing_behind a before = ([], λ (log : List Record) (written : List ℕ) serving. nothing_given log a.reader.place written a.sender serving, inl refl, Appends-nil before)

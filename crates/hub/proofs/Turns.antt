@@ -53,13 +53,16 @@ told_turn place here work old informed new seat seat_then seat_after before afte
 pub told_answers : {L : Type 0} (work : Work) (old informed new : Walsender L) (seat seat_then seat_after : View) (before after : Option (List ℕ)) → HasLearnt old informed
     → (work.phase ≡ phases.Closed) ⊎ (WritesFirst (informed.sender.held ++ keepalives informed.sender.position work.asked) informed before after × ReadsWhole informed new) → Answers work (standing old seat before) (standing new seat_after after)
 told_answers work old informed new seat seat_then seat_after before after is (inl over) = inl over
-told_answers work old informed new seat seat_then seat_after before after is (inr (first, reads)) = inr (λ written serving.
-    let Seen : List Record → Type 0 = λ log. IsServing log old.reader.place written old.sender in
-    let At : ℕ → Type 0 = λ place. IsServing (seen_of informed.reader) place written old.sender in
-    let By : SenderState → Type 0 = λ s. IsServing (seen_of informed.reader) informed.reader.place written s in
-    let (more, appended) = first written (subst By (sym is.sender) (subst At (sym is.place) (subst Seen (sym is.seen) serving))) in
-    let Wrote : SenderState → Type 0 = λ s. Appends before after ((s.held ++ keepalives s.position work.asked) ++ more) in
-    (more, subst Wrote is.sender appended), told_whole old informed new is reads)
+told_answers work old informed new seat seat_then seat_after before after is (inr (first, reads)) = inr (
+  λ written serving.
+      let Seen : List Record → Type 0 = λ log. IsServing log old.reader.place written old.sender in
+      let At : ℕ → Type 0 = λ place. IsServing (seen_of informed.reader) place written old.sender in
+      let By : SenderState → Type 0 = λ s. IsServing (seen_of informed.reader) informed.reader.place written s in
+      let (more, appended) = first written (subst By (sym is.sender) (subst At (sym is.place) (subst Seen (sym is.seen) serving))) in
+      let Wrote : SenderState → Type 0 = λ s. Appends before after ((s.held ++ keepalives s.position work.asked) ++ more) in
+      (more, subst Wrote is.sender appended),
+  told_whole old informed new is reads,
+)
 
 -- one turn more behind others, all of which went well
 turns_more : {D L : Type 0} (told : D → Work → D → Type 0) (place : ℕ) (last : Work → Standing L → Standing L → Type 0) (first : Work) (works : List Work) (work : Work) (desk given after : D) (old between new : Standing L)
@@ -89,16 +92,16 @@ ended_with_fault (Err fault) work old new is = tt
 -- ---- the end of a stream
 
 -- its client asked for it
-pub left_at_end : {D L : Type 0} (told : D → Work → D → Type 0) (place : ℕ) (first : Work) (r : Result (Unit {0}) ConnectionEnd) (desk after : D) (old : Standing L) (position : ℕ) (seat : View) → is_err r ≡ false
-    → EndsTurns told place first r desk old after position seat → LeavesSlot told place first r desk old after seat
-left_at_end told place first (Ok done) desk after old position seat ok (end, last, turns, read, same, by) = (end, last, turns, same, by)
-left_at_end told place first (Err over) desk after old position seat ok ends = absurd cc
+pub left_at_end : {D L : Type 0} (told : D → Work → D → Type 0) (place : ℕ) (first : Work) (r : Result (Unit {0}) ConnectionEnd) (desk after : D) (old : Standing L) (position : ℕ) (seat : View) (written : Option (List ℕ)) → is_err r ≡ false
+    → EndsTurns told place first r desk old after position seat written → LeavesSlot told place first r desk old after seat written
+left_at_end told place first (Ok done) desk after old position seat written ok (end, last, turns, read, same, by) = (end, last, turns, same, by)
+left_at_end told place first (Err over) desk after old position seat written ok ends = absurd cc
 
 -- the connection is over
-pub left_at_close : {D L : Type 0} (told : D → Work → D → Type 0) (place here : ℕ) (first work : Work) (r : Result (Unit {0}) ConnectionEnd) (desk closed after : D) (old : Standing L) (position : ℕ) (seat seat_after : View) → is_err r ≡ true → here ≡ place
-    → EndsTurns told place first r desk old closed position seat → told closed work after → Confirms work.flushed position here seat seat_after → LeavesSlot told place first r desk old after seat_after
-left_at_close told place here first work (Ok done) desk closed after old position seat seat_after err at ends gives confirmed = absurd cc
-left_at_close told place here first work (Err over) desk closed after old position seat seat_after err at (end, last, turns, read, same, by) gives confirmed =
+pub left_at_close : {D L : Type 0} (told : D → Work → D → Type 0) (place here : ℕ) (first work : Work) (r : Result (Unit {0}) ConnectionEnd) (desk closed after : D) (old : Standing L) (position : ℕ) (seat seat_after : View) (written : Option (List ℕ)) → is_err r ≡ true → here ≡ place
+    → EndsTurns told place first r desk old closed position seat written → told closed work after → Confirms work.flushed position here seat seat_after → LeavesSlot told place first r desk old after seat_after written
+left_at_close told place here first work (Ok done) desk closed after old position seat seat_after written err at ends gives confirmed = absurd cc
+left_at_close told place here first work (Err over) desk closed after old position seat seat_after written err at (end, last, turns, read, same, by) gives confirmed =
     let At : ℕ → Type 0 = λ p. Confirms work.flushed position p seat seat_after in
     let Read : ℕ → Type 0 = λ n. Confirms work.flushed n place seat seat_after in
     let From : View → Type 0 = λ v. Confirms work.flushed end.walsender.sender.position place v seat_after in

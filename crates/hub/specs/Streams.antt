@@ -1,6 +1,8 @@
 -- What a connection makes of its stream.
-use Rattle.std.specs.Prelude.{◌≡◌, ◌⊎◌, ℕ, zero, suc, List, [], ◌++◌, false}
+use Rattle.std.specs.Prelude.{◌≡◌, ◌⊎◌, ℕ, zero, suc, List, [], ◌++◌, None, Some, false}
 use Rattle.std.specs.declared.option.Option.{Option}
+use Rattle.connections.specs.declared.words.Trouble.{Trouble}
+use Rattle.connections.specs.Troubles.{told_trouble}
 use Rattle.std.specs.Io.KnownBytes.{Appends}
 use Rattle.pgoutput.specs.Words.{word_bytes}
 use Rattle.pgoutput.specs.Items.{keepalive_word}
@@ -25,10 +27,14 @@ keepalives position (suc count) = keepalives position count ++ word_bytes (keepa
 abbrev pub StreamsOn : {L : Type 0} → Walsender L → Walsender L → Option (List ℕ) → Option (List ℕ) → Type 0
 StreamsOn old new before after = (given : List ℕ) × GoesOn given old new × Appends before after given
 
--- what was held was written, and other words, if there are any, only behind all of it
-abbrev pub WordsBehind : {L : Type 0} → Walsender L → Walsender L → Option (List ℕ) → Option (List ℕ) → Type 0
-WordsBehind old new before after =
-    (given words : List ℕ) × Gives given old new × ((words ≡ []) ⊎ (new.sender.held ≡ [])) × Appends before after (given ++ words)
+-- the words of a trouble, if there is one
+abbrev pub words_of : Option Trouble → List ℕ
+words_of None = []
+words_of (Some trouble) = told_trouble trouble
+
+-- what was held was written, and these words, if there are any, only behind all of it
+abbrev pub WordsBehind : {L : Type 0} → List ℕ → Walsender L → Walsender L → Option (List ℕ) → Option (List ℕ) → Type 0
+WordsBehind words old new before after = (given : List ℕ) × Gives given old new × ((words ≡ []) ⊎ (new.sender.held ≡ [])) × Appends before after (given ++ words)
 
 -- its reader was told of a commit, and nothing else has changed
 pub record HasLearnt {L : Type 0} (old new : Walsender L) : Type 0 where

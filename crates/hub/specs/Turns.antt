@@ -1,6 +1,7 @@
 -- What a stream does of the work that its connection brings, turn by turn, and what that leaves of its slot.
 use Rattle.std.specs.Prelude.{◌≡◌, ◌⊎◌, ℕ, List, [], ◌∷◌, ◌++◌, Option, Some, None, Result, Ok, Err, max, min}
 use mathlib.Core.List.{IsPrefix}
+use Rattle.std.specs.Io.KnownBytes.{Appends}
 use Rattle.shared_log.specs.Fronts.{settled_records}
 use Rattle.shared_log.specs.Readers.{seen_of}
 use Rattle.wal.specs.Log.{end_of}
@@ -82,21 +83,22 @@ trouble_of ends.FullArena = Some troubles.FullArena
 trouble_of ends.NoEntry = Some troubles.NoEntry
 trouble_of end = None
 
--- How a stream ended whose last turn ended so: by that turn's fault; in order, where its client asked for that; or since its client is gone.
-abbrev pub EndsBy : Result Work TurnFault → Result (Unit {0}) ConnectionEnd → Type 0
-EndsBy (Err fault) ended = ended ≡ Err (end_of_fault fault)
-EndsBy (Ok last) (Ok done) = last.phase ≡ phases.Stopping
-EndsBy (Ok last) (Err end) = end ≡ ends.Client
+-- How a stream ended whose last turn ended so: by that turn's fault; in order, where its client asked for that, with the last work's words behind
+-- all that was written; or since its client is gone.
+abbrev pub EndsBy : Result Work TurnFault → Result (Unit {0}) ConnectionEnd → Option (List ℕ) → Option (List ℕ) → Type 0
+EndsBy (Err fault) ended before after = ended ≡ Err (end_of_fault fault)
+EndsBy (Ok last) (Ok done) before after = (last.phase ≡ phases.Stopping) × Appends before after last.said.items
+EndsBy (Ok last) (Err end) before after = end ≡ ends.Client
 
 -- they were taken, up to this position and this seat, however the last one ended, and by that the stream ended
-abbrev pub EndsTurns : {D L : Type 0} → (D → Work → D → Type 0) → ℕ → Work → Result (Unit {0}) ConnectionEnd → D → Standing L → D → ℕ → View → Type 0
-EndsTurns {D} {L} told place first ended desk old after position seat =
-    (end : Standing L) × (last : Result Work TurnFault) × TakesTurns told place (Ended last) first desk old after end × (position ≡ end.walsender.sender.position) × (seat ≡ end.seat) × EndsBy last ended
+abbrev pub EndsTurns : {D L : Type 0} → (D → Work → D → Type 0) → ℕ → Work → Result (Unit {0}) ConnectionEnd → D → Standing L → D → ℕ → View → Option (List ℕ) → Type 0
+EndsTurns {D} {L} told place first ended desk old after position seat written =
+    (end : Standing L) × (last : Result Work TurnFault) × TakesTurns told place (Ended last) first desk old after end × (position ≡ end.walsender.sender.position) × (seat ≡ end.seat) × EndsBy last ended end.written written
 
 -- What a stream leaves of its slot, and by what it ended: all that came was confirmed in its turn. Where the connection is over, so was the last work, behind which nothing comes.
-abbrev pub LeavesSlot : {D L : Type 0} → (D → Work → D → Type 0) → ℕ → Work → Result (Unit {0}) ConnectionEnd → D → Standing L → D → View → Type 0
-LeavesSlot {D} {L} told place first (Ok done) desk old after seat =
-    (end : Standing L) × (last : Result Work TurnFault) × TakesTurns told place (Ended last) first desk old after end × (seat ≡ end.seat) × EndsBy last (Ok done)
-LeavesSlot {D} {L} told place first (Err over) desk old after seat =
+abbrev pub LeavesSlot : {D L : Type 0} → (D → Work → D → Type 0) → ℕ → Work → Result (Unit {0}) ConnectionEnd → D → Standing L → D → View → Option (List ℕ) → Type 0
+LeavesSlot {D} {L} told place first (Ok done) desk old after seat written =
+    (end : Standing L) × (last : Result Work TurnFault) × TakesTurns told place (Ended last) first desk old after end × (seat ≡ end.seat) × EndsBy last (Ok done) end.written written
+LeavesSlot {D} {L} told place first (Err over) desk old after seat written =
     (end : Standing L) × (last : Result Work TurnFault) × (closed : D) × (work : Work) × TakesTurns told place (Ended last) first desk old closed end × told closed work after
-    × Confirms work.flushed end.walsender.sender.position place end.seat seat × EndsBy last (Err over)
+    × Confirms work.flushed end.walsender.sender.position place end.seat seat × EndsBy last (Err over) end.written written

@@ -1,7 +1,8 @@
 //! How a stream is written: turn by turn, as work comes, until something else is to be said or the connection is over.
 
 ghost use Rattle.std.specs.Prelude.{◌≡◌, IfErr, OnOk};
-ghost use Rattle.hub.specs.Streams.{StreamsOn, WordsBehind};
+ghost use Rattle.std.specs.Io.KnownBytes.{Appends};
+ghost use Rattle.hub.specs.Streams.{StreamsOn, WordsBehind, words_of};
 ghost use Rattle.hub.specs.Turns.{Ended, EndsBy, EndsTurns, LeavesSlot, TakesTurns, end_of_fault, standing, trouble_of};
 
 use crate::streaming::Stream;
@@ -27,7 +28,7 @@ pub(crate) fn write_stream<L: LogName + SlotName, R: Wait, D: WorkDesk<L>, W: Wr
 ) -> Result<(), ConnectionEnd>
     ensures slot { LeavesSlot D.told stream.old.hold.lease.place first result desk.old
         (standing stream.old.walsender stream.old.hold.seat (W.contents to.old)) desk.new
-        stream.new.hold.seat }
+        stream.new.hold.seat (W.contents to.new) }
 {
     let ended = write_to_end(rt, desk, slots, stream, first, to);
     if ended.is_err() {
@@ -48,7 +49,7 @@ fn write_to_end<L: LogName + SlotName, R: Wait, D: WorkDesk<L>, W: Write>(
 ) -> Result<(), ConnectionEnd>
     ensures turns { EndsTurns D.told stream.old.hold.lease.place first result desk.old
         (standing stream.old.walsender stream.old.hold.seat (W.contents to.old)) desk.new
-        stream.new.walsender.sender.position stream.new.hold.seat }
+        stream.new.walsender.sender.position stream.new.hold.seat (W.contents to.new) }
     ensures lease { stream.new.hold.lease ≡ stream.old.hold.lease }
 {
     let last = run(rt, desk, slots, stream, first, to);
@@ -61,7 +62,7 @@ fn finish<L: LogName + SlotName, W: Write>(
     last: Result<Work, TurnFault>,
     to: &mut W,
 ) -> Result<(), ConnectionEnd>
-    ensures by { EndsBy last result }
+    ensures by { EndsBy last result (W.contents to.old) (W.contents to.new) }
     ensures position { stream.new.walsender.sender.position ≡ stream.old.walsender.sender.position }
     ensures hold { stream.new.hold ≡ stream.old.hold }
 {
@@ -112,7 +113,9 @@ fn run<L: LogName + SlotName, R: Wait, D: WorkDesk<L>, W: Write>(
 
 /// Writes the words of what was taken. The connection may be over behind them.
 pub(crate) fn say<W: Write>(work: &Work, to: &mut W) -> Result<(), ConnectionEnd>
-    ensures { IfErr result (λ end. end ≡ ConnectionEnd.Client) }
+    ensures said { OnOk result
+        (Appends (W.contents to.old) (W.contents to.new) work.now.said.items) }
+    ensures err { IfErr result (λ end. end ≡ ConnectionEnd.Client) }
 {
     if to.write_all(work.said.as_slice()).is_err() || work.phase == Phase::Closed {
         return Err(ConnectionEnd::Client);
@@ -127,16 +130,18 @@ fn tell<L: LogName + SlotName, W: Write>(
     to: &mut W,
 ) -> io::Result<()>
     ensures behind { OnOk result
-        (WordsBehind stream.old.walsender stream.new.walsender (W.contents to.old)
-        (W.contents to.new)) }
+        (WordsBehind (words_of (trouble_of end)) stream.old.walsender stream.new.walsender
+        (W.contents to.old) (W.contents to.new)) }
     ensures position { stream.new.walsender.sender.position ≡ stream.old.walsender.sender.position }
     ensures hold { stream.new.hold ≡ stream.old.hold }
 {
-    let Some(trouble) = trouble_of(end) else {
-        return Ok(());
-    };
-    stream.write_rest(to)?;
-    write_trouble(stream.alloc(), trouble, to)
+    match trouble_of(end) {
+        Some(trouble) => {
+            stream.write_rest(to)?;
+            write_trouble(stream.alloc(), trouble, to)
+        }
+        None => Ok(()),
+    }
 }
 
 /// How the connection of a stream ends whose turn has failed so.

@@ -67,11 +67,11 @@ fn say_first<L: LogName + SlotName, R: Wait, G: Gate>(
 /// The way to its client.
 fn outlet<'h, L: LogName + SlotName, R: Wait, G: Gate>(
     write: &WriteLoop<'h, L, R, G>,
-) -> Outlet<'h, Box<Stream<L>>, R> {
+) -> Outlet<'h, Box<Stream<L>>, R, &'h TcpStream> {
     Outlet {
         rt: write.rt,
         line: write.line,
-        socket: write.socket,
+        to: write.socket,
     }
 }
 

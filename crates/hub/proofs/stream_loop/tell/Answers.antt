@@ -1,10 +1,12 @@
-use Rattle.hub.proofs.Streams.{nothing_behind, words_behind}
+use Rattle.std.proofs.Common.{Option, subst}
+use Rattle.connections.specs.declared.words.Trouble.{Trouble}
+use Rattle.hub.specs.Streams.{WordsBehind, words_of}
+use Rattle.hub.proofs.Streams.{nothing_behind}
 use Rattle.hub.proofs.stream_loop.tell.Goals as goal
 
-pub returns-in_default-clause-behind : goal.returns-in_default-clause-behind
-returns-in_default-clause-behind g c = nothing_behind c.args.stream.now.walsender (g.W.Write.contents c.args.to.now)
-
-pub returns-clause-behind : goal.returns-clause-behind
-returns-clause-behind g c =
-    let (given, gives, appended) = c.write_rest.ensures.serves in
-    words_behind c.args.stream.now.walsender c.write_rest.new.self.walsender (g.W.Write.contents c.args.to.now) (g.W.Write.contents c.write_rest.new.to) (g.W.Write.contents c.write_trouble.new.to) given c.write_trouble.result gives c.in_ok-write_rest.ensures.ok appended c.write_trouble.ensures
+pub returns-in-None-clause-behind : goal.returns-in-None-clause-behind
+returns-in-None-clause-behind g c =
+    let here = c.args.stream.now.walsender in
+    let before = g.W.Write.contents c.args.to.now in
+    let Told : Option Trouble → Type 0 = λ trouble. WordsBehind (words_of trouble) here here before before in
+    subst Told c.in-None.ensures (nothing_behind here before)

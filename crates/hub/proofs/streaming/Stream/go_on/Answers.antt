@@ -1,4 +1,4 @@
-use Rattle.std.proofs.Common.{◌≡◌, ℕ, List, ◌++◌, ◌∙◌, ap, refl, inr, subst}
+use Rattle.std.proofs.Common.{◌++◌, ◌∙◌, ap, refl, inr, subst}
 use Rattle.walsender.specs.Sending.{SenderState}
 use Rattle.walsender.specs.declared.walsender.Walsender.{Walsender}
 use Rattle.hub.specs.Streams.{keepalives}
@@ -75,6 +75,6 @@ returns-clause-answers g c =
     let turn = c.in_ok-turn.ensures in
     let (out, gave, _) = turn.reads in
     let reads = read_whole old asked c.turn.new.self c.tell_position.new.self.walsender (c.ask_if.ensures.position ∙ c.answer_statuses.ensures.position ∙ ap (λ (w : Walsender _). w.sender.position) same)
-        (c.ask_if.ensures.reader ∙ c.answer_statuses.ensures.reader ∙ ap (λ (w : Walsender _). w.reader) same) (turn.sees refl) (ap (λ (s : SenderState). s.position) gave.rest ∙ gave.read.position) c.tell_position.ensures.position
-        c.tell_position.ensures.reader in
+    (c.ask_if.ensures.reader ∙ c.answer_statuses.ensures.reader ∙ ap (λ (w : Walsender _). w.reader) same) (turn.sees refl) (ap (λ (s : SenderState). s.position) gave.rest ∙ gave.read.position) c.tell_position.ensures.position
+    c.tell_position.ensures.reader in
     ok_so c.tell_position.result (c.tell_position.ensures.whole turn.sent) (λ empty. inr (first, reads empty))
