@@ -3,3 +3,4 @@ pub mod Printed
 pub mod Deeds
 pub mod Given
 pub mod Going
+pub mod Lived

@@ -1,4 +1,5 @@
 pub mod Kept
+pub mod Lives
 pub mod Once
 pub mod Promise
 pub mod Retrying
