@@ -4,3 +4,4 @@ pub mod Deeds
 pub mod Given
 pub mod Going
 pub mod Lived
+pub mod Found

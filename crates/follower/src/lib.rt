@@ -35,8 +35,8 @@ pub use options::Options;
 pub use output::Output;
 pub use peer::Peer;
 pub use promise::{
-    each_transaction_is_printed_once, each_transaction_stands_once_over_kills,
-    no_acknowledgement_is_ahead, no_transaction_is_lost,
+    a_run_goes_on_behind_the_last_whole_one, each_transaction_is_printed_once,
+    each_transaction_stands_once_over_kills, no_acknowledgement_is_ahead, no_transaction_is_lost,
 };
 pub use resuming::{Subscription, resume};
 pub use retrying::{LONGEST_PAUSE, Pauses, SHORTEST_PAUSE};

@@ -1,12 +1,15 @@
 //! What holds of a follower over all its connections.
 
-ghost use Rattle.std.specs.Prelude.{◌≡◌, ℕ, Bool, List, Option, [], ◌++◌};
+ghost use Rattle.std.specs.Prelude.{◌≡◌, ℕ, Bool, List, Option, [], ◌++◌, ◌^◌, ◌<◌};
 ghost use Rattle.pgoutput.specs.declared.relation.Relation.{Relation};
 ghost use Rattle.pgoutput.specs.declared.published.Published.{Published};
 ghost use Rattle.pgoutput.specs.Items.{Item, bytes_of_items, FitItems};
 ghost use Rattle.client.specs.Law.{AreForward, GainedAll};
 ghost use Rattle.follower.specs.Once.{EachOnce, before};
-ghost use Rattle.follower.specs.Lives.{EachBehind, Life, Lives, printed_over};
+ghost use Rattle.follower.specs.declared.line.Line.{Line};
+ghost use Rattle.follower.specs.Kept.{with_lines};
+ghost use Rattle.follower.specs.Found.{BeginsOne, Finds, TellAll, bytes_in, nothing_kept};
+ghost use Rattle.follower.specs.Lives.{EachBehind, Life, Lives, place_behind_all, printed_over};
 ghost use Rattle.follower.specs.Standing.{Standing, Deed, Connects, Does, Runs, Tells};
 ghost use Rattle.follower.specs.Promise.{begun_at, printed_in, AreReceived, received_bytes};
 
@@ -53,4 +56,13 @@ pub fn no_acknowledgement_is_ahead()
         EachOnce start (printed_in (begun_at start written kept sent) deeds old run)
         old.applier.subscriber.position
         × (new.kept ≡ new.written) }
+{}
+
+/// Of an output that holds whole transactions and notes, and behind them a beginning of one more or nothing: a run finds the place
+/// behind the last whole one, and cuts off what stands behind that.
+pub fn a_run_goes_on_behind_the_last_whole_one()
+    ensures { (ts : List Published) (whole part : List Line) →
+        TellAll ts whole → BeginsOne part → bytes_in (whole ++ part) < 2 ^ 64 →
+        Finds (place_behind_all 0 ts) (bytes_in whole) (bytes_in part)
+        (with_lines nothing_kept (whole ++ part)) }
 {}
