@@ -5,4 +5,5 @@ pub mod Once
 pub mod Promise
 pub mod Retrying
 pub mod Standing
+pub mod TextLines
 pub mod Told
