@@ -99,6 +99,7 @@ by_all place kept k (t ∷ ts) lines found tell bound =
 pub finds : (ts : List Published) (whole part : List Line) → TellAll ts whole → BeginsOne part → bytes_in (whole ++ part) < 2 ^ 64 → Finds (place_behind_all 0 ts) (bytes_in whole) (bytes_in part) (with_lines nothing_kept (whole ++ part))
 finds ts whole part tell begins bound =
     let size = bytes_then whole part in
-    let all = subst (λ (n : ℕ). Finds (place_behind_all 0 ts) n 0 (with_lines nothing_kept whole)) (omega arith) (by_all 0 0 nothing_kept ts whole (record { position = refl; length = refl; behind = refl; own = refl }) tell (omega (arith, size, bound))) in
+    let none : 0 + bytes_in whole ≡ bytes_in whole = omega arith in
+    let all = subst (λ (n : ℕ). Finds (place_behind_all 0 ts) n 0 (with_lines nothing_kept whole)) none (by_all 0 0 nothing_kept ts whole (record { position = refl; length = refl; behind = refl; own = refl }) tell (omega (arith, size, bound))) in
     let here = by_part (place_behind_all 0 ts) (bytes_in whole) (with_lines nothing_kept whole) part all begins (omega (arith, size, bound)) in
     subst (λ (l : Kept). Finds (place_behind_all 0 ts) (bytes_in whole) (bytes_in part) l) (sym (lines_then nothing_kept whole part)) here

@@ -5,3 +5,4 @@ pub mod Given
 pub mod Going
 pub mod Lived
 pub mod Found
+pub mod TextLines

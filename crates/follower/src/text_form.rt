@@ -1,10 +1,13 @@
 //! Lines of text, as an output holds them.
 
-ghost use Rattle.std.specs.Prelude.{◌≡◌, ◌++◌, ◌∷◌, [], ℕ, List, IfSome, MatchOption, codes, length, nat_eq};
+ghost use Rattle.std.specs.Prelude.{◌≡◌, ◌<◌, ◌^◌, ◌++◌, ◌∷◌, [], ℕ, ℤ, List, None, Some, IfSome, FitsSigned, true, length, nat_eq};
+ghost use Rattle.std.specs.Int.{w64};
+ghost use Rattle.std.specs.Str.{IsUtf8};
+ghost use Rattle.std.specs.Fmt.{signed_decimal};
 ghost use Rattle.std.specs.List.{starts_with};
 ghost use Rattle.replcmd.specs.Position.{SpellsPosition};
 ghost use Rattle.message_lines.specs.Fronts.{begins};
-ghost use Rattle.follower.specs.TextLines.{TellsCommit, TellsEnd, TellsNoteBefore, text_begins, text_is_note};
+ghost use Rattle.follower.specs.TextLines.{HasNoBlank, TellsCommit, TellsEnd, TellsNoteBefore, commit_text, text_begins, text_is_note};
 
 use crate::line::Line;
 use crate::whole::whole;
@@ -33,7 +36,12 @@ pub(crate) fn text_line(text: &[u8]) -> Line
     ensures length { result.length ≡ length text.now }
     ensures begins { result.begins ≡ text_begins text.now }
     ensures note { result.is_note ≡ text_is_note text.now }
+    // What ends something is whole, and tells it.
     ensures end { IfSome result.end (λ end. TellsEnd text.now end) }
+    // Of what is printed of a Commit, its end.
+    ensures commit { (start end : ℕ) (time : ℤ) → start < 2 ^ 64 → end < 2 ^ 64 →
+        FitsSigned w64 time → IsUtf8 (commit_text start end time) →
+        text.now ≡ commit_text start end time ++ 10 ∷ [] → result.end ≡ Some end }
 {
     Line {
         length: text.len() as u64,
@@ -50,7 +58,10 @@ fn is_change(text: &[u8]) -> bool {
 
 /// A position of the log behind what the line ends, if it is whole and ends something.
 fn end_told(line: &[u8]) -> Option<u64>
-    ensures { IfSome result (λ end. TellsEnd line.now end) }
+    ensures end { IfSome result (λ end. TellsEnd line.now end) }
+    ensures commit { (start end : ℕ) (time : ℤ) → start < 2 ^ 64 → end < 2 ^ 64 →
+        FitsSigned w64 time → IsUtf8 (commit_text start end time) →
+        line.now ≡ commit_text start end time ++ 10 ∷ [] → result ≡ Some end }
 {
     match end_of_commit(line) {
         Some(end) => Some(end),
@@ -69,32 +80,47 @@ fn end_of_note(line: &[u8]) -> Option<u64>
 
 /// Where the transaction ends in the log whose Commit the line is, whole.
 fn end_of_commit(line: &[u8]) -> Option<u64>
-    ensures { IfSome result (λ end. TellsCommit line.now end) }
+    ensures found { IfSome result (λ end. TellsCommit line.now end) }
+    ensures only { (start end : ℕ) (time : ℤ) → start < 2 ^ 64 → end < 2 ^ 64 →
+        FitsSigned w64 time → IsUtf8 (commit_text start end time) →
+        line.now ≡ commit_text start end time ++ 10 ∷ [] → result ≡ Some end }
 {
     let numbers = behind(whole(line)?, COMMIT)?;
     let (start, end_and_time) = halves(numbers)?;
     let (end, time) = halves(end_and_time)?;
     let _start = position_in(start)?;
-    time.parse::<i64>().ok()?;
+    if !is_time(time) {
+        return None;
+    }
     position_in(end)
+}
+
+fn is_time(text: &str) -> bool
+    ensures { (time : ℤ) → FitsSigned w64 time → text.now ≡ signed_decimal time → result ≡ true }
+{
+    text.parse::<i64>().is_ok()
 }
 
 /// What stands behind this front of a line.
 fn behind<'a>(line: &'a str, front: &str) -> Option<&'a str>
-    ensures { IfSome result (λ text. line.now ≡ front.now ++ text.now) }
+    ensures found { IfSome result (λ text. line.now ≡ front.now ++ text.now) }
+    ensures none { result ≡ None → (text : List ℕ) → line.now ≡ front.now ++ text → ⊥ }
 {
     line.strip_prefix(front)
 }
 
 /// What stands before and behind the first blank.
 fn halves(text: &str) -> Option<(&str, &str)>
-    ensures { IfSome result (λ both. text.now ≡ both.0.now ++ 32 ∷ both.1.now) }
+    ensures found { IfSome result (λ both. text.now ≡ both.0.now ++ 32 ∷ both.1.now) }
+    ensures first { IfSome result (λ both. HasNoBlank both.0.now) }
+    ensures none { result ≡ None → (front rest : List ℕ) → text.now ≡ front ++ 32 ∷ rest → ⊥ }
 {
     text.split_once(' ')
 }
 
 fn position_in(text: &str) -> Option<u64>
-    ensures { IfSome result (λ position. SpellsPosition text.now position) }
+    ensures found { IfSome result (λ position. SpellsPosition text.now position) }
+    ensures only { (position : ℕ) → SpellsPosition text.now position → result ≡ Some position }
 {
     parse_position(text).ok()
 }
