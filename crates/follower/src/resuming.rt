@@ -58,12 +58,12 @@ impl Subscription {
     }
 }
 
-/// Follows the slot over one connection, as `follow` does, from where the subscription is. The server is asked first which system it
-/// is: one after the other has to be the same, since positions of another say nothing of what was printed (K7). What `options.create` asks for is that the
-/// slot is there. Each transaction is printed when it is whole, and once, whatever came of it on connections before; the Relation
-/// of a table stands in front of its first change. What was printed is acknowledged before more is read, and where the server asks.
-/// Where a read of the socket gives up, the server is asked for a keepalive; where the next one does too, it is silent. Behind all
-/// of them stands the last line of the form, if it has one.
+/// Follows the slot over one connection, as `follow` does, from where the subscription is. The server is asked first which system
+/// it is: one after the other has to be the same, since positions of another say nothing of what was printed (K7). What
+/// `options.create` asks for is that the slot is there. Each transaction is printed when it is whole, and once, whatever came of
+/// it on connections before; the Relation of a table stands in front of its first change. What was printed is acknowledged before
+/// more is read, and where the server asks. Where a read of the socket gives up, the server is asked for a keepalive; where the
+/// next one does too, it is silent. Behind all of them stands the last line of the form, if it has one.
 ///
 /// Where the fault is a passing one (`FollowFault::is_passing`), the subscription goes on over another connection. Once all is
 /// printed, a connection that is lost is no fault.
