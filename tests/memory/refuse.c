@@ -1,5 +1,6 @@
 /* Refuses memory to the program that it is loaded into: once, the allocation whose number the variable REFUSE has, counted
-   from 1, and all from that on whose number the variable REFUSE_FROM has. The variable REFUSE_TELLS has the number of a descriptor, to which the count of all allocations goes in the end. */
+   from 1, and all from that on whose number the variable REFUSE_FROM has. The variable REFUSE_TELLS has the number of a descriptor, to which the count of all allocations goes in the end.
+   Once, and behind that no more, it has no file put on the disk: the time whose number the variable REFUSE_SYNC has. */
 #define _GNU_SOURCE
 #include <errno.h>
 #include <limits.h>
@@ -15,7 +16,8 @@ void *__libc_realloc(void *old, size_t size);
 void *__libc_memalign(size_t align, size_t size);
 
 static atomic_long counted;
-static long refused, refused_from;
+static atomic_long synced;
+static long refused, refused_from, refused_sync;
 static int teller = -1;
 
 static long number_in(const char *name, long other) {
@@ -26,6 +28,7 @@ static long number_in(const char *name, long other) {
 __attribute__((constructor)) static void begin(void) {
     refused = number_in("REFUSE", 0);
     refused_from = number_in("REFUSE_FROM", LONG_MAX);
+    refused_sync = number_in("REFUSE_SYNC", 0);
     teller = (int)number_in("REFUSE_TELLS", -1);
     atomic_store(&counted, 0);
 }
@@ -71,3 +74,14 @@ int posix_memalign(void **made, size_t align, size_t size) {
     *made = got;
     return 0;
 }
+
+static int is_put(long call, int file) {
+    if (atomic_fetch_add(&synced, 1) + 1 != refused_sync)
+        return (int)syscall(call, file);
+    errno = EIO;
+    return -1;
+}
+
+int fsync(int file) { return is_put(SYS_fsync, file); }
+
+int fdatasync(int file) { return is_put(SYS_fdatasync, file); }

@@ -36,10 +36,15 @@ def run_without(words, shim, number):
     return end(*begin(words, shim, 0, refused_from=number))
 
 
-def begin(words, shim, number, given=subprocess.DEVNULL, refused_from=None):
+def run_unsynced(words, shim, number):
+    """Runs a program; it fails to have a file put on the disk the time of this number, and can before and after."""
+    return end(*begin(words, shim, 0, refused_sync=number))
+
+
+def begin(words, shim, number, given=subprocess.DEVNULL, refused_from=None, refused_sync=0):
     """A program that runs so, and where the count of its allocations comes in the end."""
     reads, writes = os.pipe()
-    env = dict(os.environ, LD_PRELOAD=str(shim), REFUSE=str(number), REFUSE_TELLS=str(writes))
+    env = dict(os.environ, LD_PRELOAD=str(shim), REFUSE=str(number), REFUSE_SYNC=str(refused_sync), REFUSE_TELLS=str(writes))
     if refused_from is not None:
         env["REFUSE_FROM"] = str(refused_from)
     process = subprocess.Popen(words, stdin=given, stdout=subprocess.PIPE, stderr=subprocess.PIPE, text=True, env=env, pass_fds=[writes])

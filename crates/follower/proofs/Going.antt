@@ -9,7 +9,7 @@ use Rattle.client.specs.declared.fault.ClientFault.{ClientFault}
 use Rattle.client.specs.Taking.{ApplierState, Takes}
 use Rattle.follower.specs.Once.{applier_without_applied}
 use Rattle.follower.specs.declared.delivery.Delivery.{Delivery}
-use Rattle.follower.specs.Standing.{Standing, Deed, Waits, Receives, Prints, Sums, Breaks, Tells, Ends, Does, Runs, IsOfAStream, Goes, HandsOver, FailsToHand, standing, status_at}
+use Rattle.follower.specs.Standing.{Standing, Deed, Waits, Receives, Prints, Sums, Breaks, Tells, Ends, Does, Runs, IsOfAStream, Goes, GoesOver, HandsOver, FailsToHand, connected, standing, status_at}
 
 runs_then : (a : Standing) (ds es : List Deed) (b c : Standing) → Runs a ds b → Runs b es c → Runs a (ds ++ es) c
 runs_then a [] es b c p q = subst (λ (s : Standing). Runs s es c) p q
@@ -130,3 +130,24 @@ pub waiting : (unread more now : List ℕ) (d : Delivery) (written kept before a
 waiting unread more now d written kept before after is keeps =
     goes_by (standing d unread written kept before) (standing d now written kept after) Waits
     (more, keeps, ap (λ (l : List ℕ). stands l written kept after d.intake.applier d.is_broken) is) tt
+
+-- ---- Over a connection.
+
+pub begun_over : (unread now left : List ℕ) (old begun new : Delivery) (before asked after before_kept asked_kept after_kept before_sent asked_sent after_sent : Option (List ℕ)) → Keeps before asked → begun ≡ connected old
+    → Goes (standing begun now asked asked_kept asked_sent) (standing new left after after_kept after_sent)
+    → GoesOver (standing old unread before before_kept before_sent) (standing new left after after_kept after_sent)
+begun_over unread now left old begun new before asked after before_kept asked_kept after_kept before_sent asked_sent after_sent keeps is goes = record {
+  asked = standing old now asked asked_kept asked_sent;
+  asks = (keeps, refl);
+  goes = inr (standing begun now asked asked_kept asked_sent, ap (λ (d : Delivery). standing d now asked asked_kept asked_sent) is, goes);
+}
+
+pub refused_over : (unread : List ℕ) (old new : Delivery) (before after before_kept after_kept before_sent after_sent : Option (List ℕ)) → Keeps before after → (new ≡ old) ⊎ (new ≡ connected old)
+    → GoesOver (standing old unread before before_kept before_sent) (standing new [] after after_kept after_sent)
+refused_over unread old new before after before_kept after_kept before_sent after_sent keeps (inl same) = record {
+  asked = standing old [] after after_kept after_sent;
+  asks = (keeps, refl);
+  goes = inl (ap (λ (d : Delivery). standing d [] after after_kept after_sent) same);
+}
+refused_over unread old new before after before_kept after_kept before_sent after_sent keeps (inr is) =
+    begun_over unread [] [] old new new before after after before_kept after_kept after_kept before_sent after_sent after_sent keeps is (goes_nowhere (standing new [] after after_kept after_sent))

@@ -1,5 +1,5 @@
 -- What an output holds, line by line.
-use Rattle.std.specs.Prelude.{ℕ, ◌+◌, ◌-◌, ◌^◌, ◌==◌, ◌||◌, ◌&&◌, Bool, not, min, Option, Some, None, if◌then◌else◌}
+use Rattle.std.specs.Prelude.{ℕ, ◌+◌, ◌-◌, ◌^◌, ◌==◌, ◌||◌, ◌&&◌, Bool, not, min, List, [], ◌∷◌, Option, Some, None, if◌then◌else◌}
 use Rattle.follower.specs.declared.kept.Kept.{Kept}
 use Rattle.follower.specs.declared.line.Line.{Line}
 
@@ -22,3 +22,8 @@ more_by count is_one = if is_one then min (count + 1) (2 ^ 64 - 1) else count
 -- behind whole transactions and notes only one that begins is a run's own, and within a transaction no note
 abbrev pub with_line : Kept → Line → Kept
 with_line k line = kept_up_to_end (record k { rest = min (k.rest + line.length) (2 ^ 64 - 1); rest_changes = more_by k.rest_changes line.is_change; is_foreign = k.is_foreign || (k.rest == 0 && not line.begins) || (not (k.rest == 0) && line.is_note) }) line.end
+
+-- line after line
+abbrev pub with_lines : Kept → List Line → Kept
+with_lines k [] = k
+with_lines k (line ∷ lines) = with_lines (with_line k line) lines

@@ -1,5 +1,5 @@
 -- Where a follower stands, and what each of its deeds makes of that.
-use Rattle.std.specs.Prelude.{◌≡◌, ℕ, Bool, true, false, pos, List, [], ◌∷◌, ◌++◌, take, Option, Result}
+use Rattle.std.specs.Prelude.{◌≡◌, ◌⊎◌, ℕ, Bool, true, false, pos, List, [], ◌∷◌, ◌++◌, take, Option, Result}
 use Rattle.std.specs.List.{AllByRecursion}
 use Rattle.std.specs.Io.KnownBytes.{Appends, Keeps}
 use Rattle.frames.specs.Frame.{frame}
@@ -94,6 +94,13 @@ pub record Goes (old new : Standing) : Type 0 where
   pub runs : Runs old deeds new
   pub stream : AllByRecursion IsOfAStream deeds
 
+-- A server was asked, and unless it refused or was lost, a connection began. By some deeds over its stream the one standing then
+-- became the other.
+pub record GoesOver (old new : Standing) : Type 0 where
+  pub asked : Standing
+  pub asks : Does Asks old asked
+  pub goes : (new ≡ asked) ⊎ ((begun : Standing) × Does Connects asked begun × Goes begun new)
+
 -- lines came to an output that had not failed, and all that came to it is kept
 pub record HandsOver (lines : List ℕ) (was_broken is_broken : Bool) (old new safe : Option (List ℕ)) : Type 0 where
   pub sound : was_broken ≡ false
@@ -110,3 +117,7 @@ pub record FailsToHand (lines : List ℕ) (was_broken is_broken : Bool) (old new
 
 abbrev pub standing : Delivery → (unread : List ℕ) → (written kept sent : Option (List ℕ)) → Standing
 standing d unread written kept sent = record { applier = d.intake.applier; unread = unread; written = written; kept = kept; sent = sent; is_broken = d.is_broken }
+
+-- as it is when a connection begins
+abbrev pub connected : Delivery → Delivery
+connected d = record d { intake = record d.intake { applier = applier_at_connection d.intake.applier } }

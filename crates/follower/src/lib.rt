@@ -34,6 +34,9 @@ pub use kept::Kept;
 pub use options::Options;
 pub use output::Output;
 pub use peer::Peer;
-pub use promise::{each_transaction_is_printed_once, no_transaction_is_lost};
+pub use promise::{
+    a_run_goes_on_behind_the_last_whole_one, each_transaction_is_printed_once,
+    each_transaction_stands_once_over_kills, no_acknowledgement_is_ahead, no_transaction_is_lost,
+};
 pub use resuming::{Subscription, resume};
 pub use retrying::{LONGEST_PAUSE, Pauses, SHORTEST_PAUSE};

@@ -1,8 +1,8 @@
 //! Following a slot over lost connections: each transaction printed once, whole, and acknowledged behind that.
 
-ghost use Rattle.std.specs.Prelude.{◌≡◌, ◌≤◌, [], ℕ, List, OnOk, length};
+ghost use Rattle.std.specs.Prelude.{◌≡◌, ◌⊎◌, ◌-◌, ◌≤◌, [], ℕ, List, OnErr, OnOk, length};
 ghost use Rattle.std.specs.Io.KnownBytes.{Keeps};
-ghost use Rattle.follower.specs.Standing.{Goes, standing};
+ghost use Rattle.follower.specs.Standing.{Goes, GoesOver, connected, standing};
 
 use crate::asking::{ask_system, create_if_absent, greet, start_stream};
 use crate::delivery::Delivery;
@@ -58,12 +58,12 @@ impl Subscription {
     }
 }
 
-/// Follows the slot over one connection, as `follow` does, from where the subscription is. The server is asked first which system it
-/// is: one after the other has to be the same, since positions of another say nothing of what was printed (K7). What `options.create` asks for is that the
-/// slot is there. Each transaction is printed when it is whole, and once, whatever came of it on connections before; the Relation
-/// of a table stands in front of its first change. What was printed is acknowledged before more is read, and where the server asks.
-/// Where a read of the socket gives up, the server is asked for a keepalive; where the next one does too, it is silent. Behind all
-/// of them stands the last line of the form, if it has one.
+/// Follows the slot over one connection, as `follow` does, from where the subscription is. The server is asked first which system
+/// it is: one after the other has to be the same, since positions of another say nothing of what was printed (K7). What
+/// `options.create` asks for is that the slot is there. Each transaction is printed when it is whole, and once, whatever came of
+/// it on connections before; the Relation of a table stands in front of its first change. What was printed is acknowledged before
+/// more is read, and where the server asks. Where a read of the socket gives up, the server is asked for a keepalive; where the
+/// next one does too, it is silent. Behind all of them stands the last line of the form, if it has one.
 ///
 /// Where the fault is a passing one (`FollowFault::is_passing`), the subscription goes on over another connection. Once all is
 /// printed, a connection that is lost is no fault.
@@ -74,7 +74,16 @@ pub fn resume<R: Wait, S: Peer, W: Output>(
     options: &Options<'_>,
     subscription: &mut Subscription,
     output: &mut W,
-) -> Result<(), FollowFault> {
+) -> Result<(), FollowFault>
+    ensures goes { (unread : List ℕ) → (left : List ℕ) × GoesOver
+        (standing subscription.old.delivery unread (W.contents output.old) (W.kept output.old)
+        (S.contents socket.old))
+        (standing subscription.new.delivery left (W.contents output.new) (W.kept output.new)
+        (S.contents socket.new)) }
+    ensures all { OnOk result ((subscription.new.delivery.intake.applier.subscriber.applied ≡ [])
+        × (subscription.new.delivery.intake.left ≡ 0)
+        × (W.kept output.new ≡ W.contents output.new)) }
+{
     let mut incoming = Incoming::new(alloc);
     subscription.ask_for_stream(rt, &mut incoming, socket, options, output)?;
     let ended = subscription.take_frames(rt, &mut incoming, socket, output);
@@ -86,7 +95,7 @@ pub fn resume<R: Wait, S: Peer, W: Output>(
 }
 
 impl Subscription {
-    /// Asks for the stream, up to its first frame. The slot is created once: if it is dropped later, what it missed would be lost.
+    /// Asks for the stream, up to its first frame.
     fn ask_for_stream<R: Wait, S: Peer, W: Output>(
         &mut self,
         rt: &R,
@@ -94,7 +103,30 @@ impl Subscription {
         socket: &mut S,
         options: &Options<'_>,
         output: &mut W,
-    ) -> Result<(), FollowFault> {
+    ) -> Result<(), FollowFault>
+        ensures written { Keeps (W.contents output.old) (W.contents output.new) }
+        ensures ok { OnOk result (self.new.delivery ≡ connected self.old.delivery) }
+        ensures err { OnErr result ((self.new.delivery ≡ self.old.delivery)
+            ⊎ (self.new.delivery ≡ connected self.old.delivery)) }
+    {
+        self.introduce(rt, incoming, socket, options, output)?;
+        self.is_asked = false;
+        let position = self.delivery.intake.connect();
+        start_stream(rt, self.alloc, incoming, socket, options, position)
+    }
+
+    /// Meets the server, and creates the slot once: if it is dropped later, what it missed would be lost.
+    fn introduce<R: Wait, S: Peer, W: Output>(
+        &mut self,
+        rt: &R,
+        incoming: &mut Incoming,
+        socket: &mut S,
+        options: &Options<'_>,
+        output: &mut W,
+    ) -> Result<(), FollowFault>
+        ensures written { Keeps (W.contents output.old) (W.contents output.new) }
+        ensures delivery { self.new.delivery ≡ self.old.delivery }
+    {
         greet(rt, incoming, socket)?;
         let system = ask_system(rt, self.alloc, incoming, socket)?;
         self.meet(system, output)?;
@@ -102,9 +134,7 @@ impl Subscription {
             create_if_absent(rt, self.alloc, incoming, socket, options.slot)?;
             self.is_created = true;
         }
-        self.is_asked = false;
-        let position = self.delivery.intake.connect();
-        start_stream(rt, self.alloc, incoming, socket, options, position)
+        Ok(())
     }
 
     /// Takes the server for the system that it says it is, or refuses it where another one was followed.
@@ -214,6 +244,9 @@ impl Subscription {
             (S.contents socket.new)) }
         ensures all { OnOk result ((self.new.delivery.intake.applier.subscriber.applied ≡ [])
             × (W.kept output.new ≡ W.contents output.new)) }
+        ensures left { OnOk result (self.new.delivery.intake.left ≡ self.old.delivery.intake.left
+            - length self.old.delivery.intake.applier.subscriber.applied) }
+        ensures ended { OnErr ended (OnOk result ⊥) }
     {
         self.delivery.print(output)?;
         ended?;
