@@ -1,6 +1,7 @@
 """Streams that are steered on purpose, as tests of consumers need it. Each case answers what is wrong, a line each."""
 import pathlib
 import socket
+import struct
 import sys
 
 from connection import Connection, position, status
@@ -81,7 +82,7 @@ def a_connection_is_cut_behind_a_byte(pubd, subcat):
         client = stream_of(publisher, "s")
         client.frame()
         insert(publisher, 1)
-        whole = client.bytes.read(TRANSACTION)
+        whole = transaction_of(client)
         publisher.say("cut s")
         wrong = wrong_bytes("at once", all_that_comes(client), b"", pieces=23)
         for count in (*range(TRANSACTION), TRANSACTION):
@@ -92,6 +93,16 @@ def a_connection_is_cut_behind_a_byte(pubd, subcat):
         wrong += wrong_bytes("behind no byte", client.bytes.read(TRANSACTION), whole)
         client.close()
         return wrong
+
+
+def transaction_of(client):
+    """The bytes of the next transaction. A keepalive before it tells of what a turn has read of it."""
+    whole = b""
+    while len(whole) < TRANSACTION:
+        kind, body = client.frame()
+        if body[:1] == b"w":
+            whole += kind + struct.pack(">I", len(body) + 4) + body
+    return whole
 
 
 def wrong_bytes(where, came, due, pieces=1):
