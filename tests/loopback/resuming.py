@@ -44,7 +44,7 @@ def cuts_and_kills_lose_and_repeat_nothing(pubd, subcat):
 
 def cuts_and_kills_lose_and_repeat_no_message(pubd, subcat):
     """The same of messages, each second one in a transaction, and the others outside of all."""
-    return over_cuts_and_kills(pubd, subcat, messages(150), printed_of_messages(150), 80, 20, STRIDE // 3, "--messages")
+    return over_cuts_and_kills(pubd, subcat, messages(200), printed_of_messages(200), 80, 20, STRIDE // 3, "--messages")
 
 
 def over_cuts_and_kills(pubd, subcat, lines, due, cuts, kills, stride, *more, wholes=None):
