@@ -24,7 +24,10 @@ pub fn call_of_log<L: LogName, R: Wait>(
     is_called: bool,
 ) -> Result<()> {
     let receipt = commit_one(rt, alloc, publisher)?;
-    with_receipt(alloc, publisher, reader, &receipt, is_called)
+    let in_progress = publisher.begin()?;
+    let done = with_receipt(alloc, publisher, reader, &receipt, is_called);
+    publisher.leave(in_progress);
+    done
 }
 
 fn with_receipt<L: LogName>(
