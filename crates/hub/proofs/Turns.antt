@@ -1,5 +1,6 @@
 -- Turns of a stream, one behind the other.
 use Rattle.std.proofs.Common.{◌≡◌, ◌⊎◌, ℕ, true, false, List, [], ◌∷◌, ◌++◌, Result, Ok, Err, inl, inr, refl, sym, ap, subst, ◌∙◌}
+use Rattle.std.proofs.Math.Logic.{∥∥₁_map}
 use Rattle.std.specs.Result.{IsErr, is_err}
 use Rattle.std.specs.declared.option.Option.{Option}
 use Rattle.slots.specs.declared.step.View.{View}
@@ -14,11 +15,11 @@ use Rattle.wal.specs.Log.{end_of}
 use Rattle.walsender.specs.Turning.{fetched_from}
 use Rattle.server.specs.declared.connection.Phase.TheVariants as phases
 use Rattle.walsender.specs.declared.walsender.Walsender.{Walsender}
-use Rattle.walsender.specs.Serving.{IsServing, WritesFirst}
+use Rattle.walsender.specs.Serving.{IsServing, Serves, WritesFirst}
 use Rattle.connections.specs.declared.fault.ConnectionEnd.{ConnectionEnd}
 use Rattle.connections.specs.declared.inbox.Work.{Work}
 use Rattle.hub.specs.Streams.{HasLearnt, StreamsOn, keepalives}
-use Rattle.hub.specs.Turns.{Answers, Confirms, Ended, EndsTurns, LeavesSlot, ReadsWhole, Standing, TakesTurns, Turn, Turns, standing}
+use Rattle.hub.specs.Turns.{Answers, Confirms, Ended, EndsTurns, LeavesSlot, ReadsWhole, Standing, TakesTurns, Turn, Turns, WritesStream, standing}
 use Rattle.hub.proofs.Streams.{learnt, one_more}
 
 -- A turn was all that read: what was done before and after it read nothing.
@@ -89,20 +90,33 @@ pub ended_with_fault : {L T E : Type 0} (r : Result T E) (work : Work) (old new 
 ended_with_fault (Ok done) work old new is = let never : false ≡ true = is in cc
 ended_with_fault (Err fault) work old new is = tt
 
+-- turns one after the other write the stream
+turns_write : {D L : Type 0} (told : D → Work → D → Type 0) (place : ℕ) (last : Work → Standing L → Standing L → Type 0) (first : Work) (works : List Work) (desk : D) (old : Standing L) (after : D) (new : Standing L)
+    → Turns told place last first works desk old after new → StreamsOn old.walsender new.walsender old.written new.written
+turns_write told place last first [] desk old after new (same, turn, ends) = turn.1
+turns_write told place last first (work ∷ works) desk old after new (given, mid, turn, answered, gives, rest) =
+    one_more old.walsender mid.walsender new.walsender old.written mid.written new.written turn.1 (turns_write told place last work works given mid after new rest)
+
+writes_stream : {D L : Type 0} (told : D → Work → D → Type 0) (place : ℕ) (last : Work → Standing L → Standing L → Type 0) (first : Work) (desk : D) (old : Standing L) (after : D) (end : Standing L)
+    → ∥ Serves (seen_of old.walsender.reader) [] old.walsender ∥₁ → TakesTurns told place last first desk old after end → ∥ WritesStream old end ∥₁
+writes_stream told place last first desk old after end new (works, turns) =
+    let (given, goes, appended) = turns_write told place last first works desk old after end turns in
+    ∥∥₁_map new (λ serves. (given, goes [] serves, appended))
+
 -- ---- the end of a stream
 
 -- its client asked for it
-pub left_at_end : {D L : Type 0} (told : D → Work → D → Type 0) (place : ℕ) (first : Work) (r : Result (Unit {0}) ConnectionEnd) (desk after : D) (old : Standing L) (position : ℕ) (seat : View) (written : Option (List ℕ)) → is_err r ≡ false
+pub left_at_end : {D L : Type 0} (told : D → Work → D → Type 0) (place : ℕ) (first : Work) (r : Result (Unit {0}) ConnectionEnd) (desk after : D) (old : Standing L) (position : ℕ) (seat : View) (written : Option (List ℕ)) → ∥ Serves (seen_of old.walsender.reader) [] old.walsender ∥₁ → is_err r ≡ false
     → EndsTurns told place first r desk old after position seat written → LeavesSlot told place first r desk old after seat written
-left_at_end told place first (Ok done) desk after old position seat written ok (end, last, turns, read, same, by) = (end, last, turns, same, by)
-left_at_end told place first (Err over) desk after old position seat written ok ends = absurd cc
+left_at_end told place first (Ok done) desk after old position seat written new ok (end, last, turns, read, same, by) = (end, last, turns, writes_stream told place (Ended last) first desk old after end new turns, same, by)
+left_at_end told place first (Err over) desk after old position seat written new ok ends = absurd cc
 
 -- the connection is over
-pub left_at_close : {D L : Type 0} (told : D → Work → D → Type 0) (place here : ℕ) (first work : Work) (r : Result (Unit {0}) ConnectionEnd) (desk closed after : D) (old : Standing L) (position : ℕ) (seat seat_after : View) (written : Option (List ℕ)) → is_err r ≡ true → here ≡ place
+pub left_at_close : {D L : Type 0} (told : D → Work → D → Type 0) (place here : ℕ) (first work : Work) (r : Result (Unit {0}) ConnectionEnd) (desk closed after : D) (old : Standing L) (position : ℕ) (seat seat_after : View) (written : Option (List ℕ)) → ∥ Serves (seen_of old.walsender.reader) [] old.walsender ∥₁ → is_err r ≡ true → here ≡ place
     → EndsTurns told place first r desk old closed position seat written → told closed work after → Confirms work.flushed position here seat seat_after → LeavesSlot told place first r desk old after seat_after written
-left_at_close told place here first work (Ok done) desk closed after old position seat seat_after written err at ends gives confirmed = absurd cc
-left_at_close told place here first work (Err over) desk closed after old position seat seat_after written err at (end, last, turns, read, same, by) gives confirmed =
+left_at_close told place here first work (Ok done) desk closed after old position seat seat_after written new err at ends gives confirmed = absurd cc
+left_at_close told place here first work (Err over) desk closed after old position seat seat_after written new err at (end, last, turns, read, same, by) gives confirmed =
     let At : ℕ → Type 0 = λ p. Confirms work.flushed position p seat seat_after in
     let Read : ℕ → Type 0 = λ n. Confirms work.flushed n place seat seat_after in
     let From : View → Type 0 = λ v. Confirms work.flushed end.walsender.sender.position place v seat_after in
-    (end, last, closed, work, turns, gives, subst From same (subst Read read (subst At at confirmed)), by)
+    (end, last, closed, work, turns, writes_stream told place (Ended last) first desk old closed end new turns, gives, subst From same (subst Read read (subst At at confirmed)), by)

@@ -10,7 +10,7 @@ use Rattle.slots.specs.declared.step.SlotKind.TheVariants.{Raise}
 use Rattle.slots.specs.declared.step.View.{View}
 use Rattle.server.specs.declared.connection.Phase.TheVariants as phases
 use Rattle.walsender.specs.declared.walsender.Walsender.{Walsender}
-use Rattle.walsender.specs.Serving.{WritesFirst}
+use Rattle.walsender.specs.Serving.{Serves, WritesFirst}
 use Rattle.walsender.specs.Turning.{fetched_from}
 use Rattle.walsender.specs.declared.fault.SendFault.TheVariants.{ArenaFull}
 use Rattle.walsender.specs.declared.turn_fault.TurnFault.{TurnFault}
@@ -95,10 +95,14 @@ abbrev pub EndsTurns : {D L : Type 0} → (D → Work → D → Type 0) → ℕ 
 EndsTurns {D} {L} told place first ended desk old after position seat written =
     (end : Standing L) × (last : Result Work TurnFault) × TakesTurns told place (Ended last) first desk old after end × (position ≡ end.walsender.sender.position) × (seat ≡ end.seat) × EndsBy last ended end.written written
 
--- What a stream leaves of its slot, and by what it ended: all that came was confirmed in its turn. Where the connection is over, so was the last work, behind which nothing comes.
+-- What a writer took since a stream began, of which nothing had been written: with what is held it is the stream's encoding, of the log that its reader sees.
+abbrev pub WritesStream : {L : Type 0} → Standing L → Standing L → Type 0
+WritesStream old end = (given : List ℕ) × Serves (seen_of end.walsender.reader) given end.walsender × Appends old.written end.written given
+
+-- What a stream leaves of its slot, what was written of it, and by what it ended: all that came was confirmed in its turn. Where the connection is over, so was the last work, behind which nothing comes.
 abbrev pub LeavesSlot : {D L : Type 0} → (D → Work → D → Type 0) → ℕ → Work → Result (Unit {0}) ConnectionEnd → D → Standing L → D → View → Option (List ℕ) → Type 0
 LeavesSlot {D} {L} told place first (Ok done) desk old after seat written =
-    (end : Standing L) × (last : Result Work TurnFault) × TakesTurns told place (Ended last) first desk old after end × (seat ≡ end.seat) × EndsBy last (Ok done) end.written written
+    (end : Standing L) × (last : Result Work TurnFault) × TakesTurns told place (Ended last) first desk old after end × ∥ WritesStream old end ∥₁ × (seat ≡ end.seat) × EndsBy last (Ok done) end.written written
 LeavesSlot {D} {L} told place first (Err over) desk old after seat written =
-    (end : Standing L) × (last : Result Work TurnFault) × (closed : D) × (work : Work) × TakesTurns told place (Ended last) first desk old closed end × told closed work after
+    (end : Standing L) × (last : Result Work TurnFault) × (closed : D) × (work : Work) × TakesTurns told place (Ended last) first desk old closed end × ∥ WritesStream old end ∥₁ × told closed work after
     × Confirms work.flushed end.walsender.sender.position place end.seat seat × EndsBy last (Err over) end.written written

@@ -1,8 +1,8 @@
 //! The desk of a connection over the hub.
 
 use crate::granting::{begin_stream, end_stream};
+use crate::new_stream::NewStream;
 use crate::starting::HubStart;
-use crate::streaming::Stream;
 use commons::{Commons, known_names, tables_of};
 use connections::{Gate, Line, RefusedCommand};
 use pqformat::{Items, Text};
@@ -20,7 +20,7 @@ use std::time::Clock;
 pub(crate) struct HubDesk<'h, L: LogName + SlotName, R: Wait, G: Gate> {
     pub rt: &'h R,
     pub commons: &'h Commons<L>,
-    pub line: &'h Line<Box<Stream<L>>>,
+    pub line: &'h Line<NewStream<L>>,
     pub gate: &'h G,
     /// The connection's number.
     pub number: u32,
@@ -111,7 +111,7 @@ impl<'h, L: LogName + SlotName, R: Wait + Clock, G: Gate> Desk for HubDesk<'h, L
             Ok(stream) => {
                 self.latch = Some(stream.latch());
                 if let Some(unwritten) = self.line.begin(self.rt, stream) {
-                    end_stream(self.rt, self.commons, unwritten);
+                    end_stream(self.rt, self.commons, unwritten.begin());
                 }
                 Ok(())
             }

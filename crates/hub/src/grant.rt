@@ -1,7 +1,8 @@
 //! What a START was granted, before its stream.
 
-ghost use Rattle.std.specs.Prelude.{◌≡◌, ℕ, ◌<◌, IfOk, max, take};
+ghost use Rattle.std.specs.Prelude.{◌≡◌, ℕ, ◌<◌, IfOk, OnOk, max, take};
 ghost use Rattle.shared_log.specs.Readers.{seen_of};
+ghost use Rattle.wal.specs.Log.{IsWellFormedLog};
 ghost use Rattle.wal.specs.Restart.{restart, restart_place};
 ghost use Rattle.hub.specs.declared.grant.TheConstants.{LIMIT};
 ghost use Rattle.hub.specs.Streams.{asked_for};
@@ -88,6 +89,7 @@ impl<'a> Means<'a> {
             (λ b. reader.new.place ≡ restart_place b.start (take LIMIT (seen_of reader.new))) }
         ensures first { IfOk result
             (λ b. b.first ≡ restart b.start (take LIMIT (seen_of reader.new))) }
+        ensures good { OnOk result (IsWellFormedLog (seen_of reader.new)) }
     {
         let start = position.max(hold.confirmed(slots));
         let chunks = self.chunks_from(reader, start);
@@ -133,6 +135,7 @@ pub(crate) struct StreamGrant<L: LogName + SlotName> {
     pub arena: Arena,
     ghost place: { reader.place ≡ restart_place start (take LIMIT (seen_of reader)) },
     ghost begins: { first ≡ restart start (take LIMIT (seen_of reader)) },
+    ghost good: { ∥ IsWellFormedLog (seen_of reader) ∥₁ },
 }
 
 impl<L: LogName + SlotName> StreamGrant<L> {

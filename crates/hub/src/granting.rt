@@ -5,6 +5,7 @@ ghost use Rattle.hub.specs.Refusals.{ahead_by};
 ghost use Rattle.hub.specs.Streams.{HasLearnt};
 
 use crate::grant::StreamGrant;
+use crate::new_stream::NewStream;
 use crate::refusals::of_start;
 use crate::starting::HubStart;
 use crate::streaming::Stream;
@@ -13,7 +14,6 @@ use connections::{Line, SlotPost};
 use server::{DeskFault, StartAhead};
 use shared_log::LogName;
 use slots::SlotName;
-use std::alloc::AllocFailed;
 use std::sync::Wait;
 use walsender::begin;
 
@@ -21,7 +21,7 @@ use walsender::begin;
 /// its slot.
 pub(crate) fn begin_stream<L: LogName + SlotName, R: Wait>(
     start: &mut HubStart<'_, L, R>,
-) -> Result<Box<Stream<L>>, DeskFault> {
+) -> Result<NewStream<L>, DeskFault> {
     match begin(start) {
         Ok(grant) => match ahead_of(start, &grant) {
             Some(ahead) => {
@@ -66,20 +66,20 @@ fn take_back<L: LogName + SlotName, R: Wait>(rt: &R, commons: &Commons<L>, grant
 }
 
 /// The stream of a grant, or, where memory is refused, nothing: then what was granted goes back.
-// It lies in memory of its own, and what makes it has a stack frame of its own: on the stacks of both threads it took a page.
+// What makes it has a stack frame of its own: on the stacks of both threads it took a page.
 #[inline(never)]
 fn opened<L: LogName + SlotName, R: Wait>(
     rt: &R,
     commons: &Commons<L>,
     grant: StreamGrant<L>,
-) -> Result<Box<Stream<L>>, DeskFault> {
-    match Box::new(commons.alloc, Stream::open(commons.alloc, grant)) {
+) -> Result<NewStream<L>, DeskFault> {
+    match NewStream::open(commons.alloc, grant) {
         Ok(stream) => {
             commons.count_stream(rt);
             Ok(stream)
         }
-        Err(AllocFailed { value }) => {
-            commons.give_back(rt, value.end(&commons.slots));
+        Err(stream) => {
+            commons.give_back(rt, stream.end(&commons.slots));
             Err(DeskFault::Memory)
         }
     }
@@ -100,7 +100,7 @@ pub(crate) fn end_stream<L: LogName + SlotName, R: Wait>(
 pub(crate) fn await_stream<L: LogName + SlotName, R: Wait>(
     rt: &R,
     commons: &Commons<L>,
-    line: &Line<Box<Stream<L>>>,
+    line: &Line<NewStream<L>>,
     post: &SlotPost,
     stream: &mut Stream<L>,
 )

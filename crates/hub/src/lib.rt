@@ -7,6 +7,7 @@ mod desk;
 mod grant;
 mod granting;
 mod hub;
+mod new_stream;
 mod read_loop;
 mod refusals;
 mod serving;

@@ -4,7 +4,7 @@ ghost use Rattle.std.specs.Prelude.{◌≡◌};
 ghost use Rattle.server.specs.Segment.{phase_of};
 
 use crate::desk::HubDesk;
-use crate::streaming::Stream;
+use crate::new_stream::NewStream;
 use bytes::BytesMut;
 use commons::Commons;
 use connections::{Came, ConnectionEnd, Gate, Line, Patience, read_more};
@@ -36,7 +36,7 @@ struct ReadState {
 pub(crate) struct ReadLoop<'h, L: LogName + SlotName, R: Wait, G: Gate> {
     pub rt: &'h R,
     pub commons: &'h Commons<L>,
-    pub line: &'h Line<Box<Stream<L>>>,
+    pub line: &'h Line<NewStream<L>>,
     pub gate: &'h G,
     pub number: u32,
     pub socket: &'h TcpStream,

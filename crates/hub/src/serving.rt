@@ -2,8 +2,8 @@
 
 use crate::granting::end_stream;
 use crate::hub::Hub;
+use crate::new_stream::NewStream;
 use crate::read_loop::{ReadLoop, read_line};
-use crate::streaming::Stream;
 use crate::write_loop::{WriteLoop, write_line};
 use commons::{Commons, Place, ServeFault};
 use connections::{Arrival, ConnectionEnd, Gate, Line, Unserved};
@@ -165,11 +165,11 @@ where
 fn end_line<L: LogName + SlotName, R: Wait>(
     rt: &R,
     commons: &Commons<L>,
-    line: Line<Box<Stream<L>>>,
+    line: Line<NewStream<L>>,
 ) -> Option<ConnectionEnd> {
     let (unwritten, early) = line.end();
     if let Some(unwritten) = unwritten {
-        end_stream(rt, commons, unwritten);
+        end_stream(rt, commons, unwritten.begin());
     }
     early
 }
@@ -189,7 +189,7 @@ fn both<L, G, R>(
     gate: &G,
     number: u32,
     arrival: &Arrival,
-    line: &Line<Box<Stream<L>>>,
+    line: &Line<NewStream<L>>,
     socket: &TcpStream,
 ) -> Option<ConnectionEnd>
 where
@@ -213,7 +213,7 @@ where
 fn read<L: LogName + SlotName, G: Gate, R: Wait + Clock>(
     rt: &R,
     commons: &Commons<L>,
-    line: &Line<Box<Stream<L>>>,
+    line: &Line<NewStream<L>>,
     gate: &G,
     number: u32,
     socket: &TcpStream,
@@ -236,7 +236,7 @@ fn read<L: LogName + SlotName, G: Gate, R: Wait + Clock>(
 fn write<L: LogName + SlotName, R: Wait + Clock, G: Gate>(
     rt: &R,
     commons: &Commons<L>,
-    line: &Line<Box<Stream<L>>>,
+    line: &Line<NewStream<L>>,
     gate: &G,
     number: u32,
     socket: &TcpStream,

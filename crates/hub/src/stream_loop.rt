@@ -1,6 +1,8 @@
 //! How a stream is written: turn by turn, as work comes, until something else is to be said or the connection is over.
 
-ghost use Rattle.std.specs.Prelude.{◌≡◌, IfErr, OnOk};
+ghost use Rattle.std.specs.Prelude.{◌≡◌, [], IfErr, OnOk};
+ghost use Rattle.shared_log.specs.Readers.{seen_of};
+ghost use Rattle.walsender.specs.Serving.{Serves};
 ghost use Rattle.std.specs.Io.KnownBytes.{Appends};
 ghost use Rattle.hub.specs.Streams.{StreamsOn, WordsBehind, words_of};
 ghost use Rattle.hub.specs.Turns.{Ended, EndsBy, EndsTurns, LeavesSlot, TakesTurns, end_of_fault, standing, trouble_of};
@@ -26,6 +28,7 @@ pub(crate) fn write_stream<L: LogName + SlotName, R: Wait, D: WorkDesk<L>, W: Wr
     first: Work,
     to: &mut W,
 ) -> Result<(), ConnectionEnd>
+    requires { ∥ Serves (seen_of stream.old.walsender.reader) [] stream.old.walsender ∥₁ }
     ensures slot { LeavesSlot D.told stream.old.hold.lease.place first result desk.old
         (standing stream.old.walsender stream.old.hold.seat (W.contents to.old)) desk.new
         stream.new.hold.seat (W.contents to.new) }

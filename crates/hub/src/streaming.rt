@@ -55,6 +55,7 @@ impl<L: LogName + SlotName> Stream<L> {
             × (result.walsender.sender.start ≡ grant.start) }
         ensures serves { (log : List Record) → IsPrefix (seen_of grant.reader) log →
             IsWellFormedLog log → Serves log [] result.walsender }
+        ensures new { ∥ Serves (seen_of result.walsender.reader) [] result.walsender ∥₁ }
         ensures hold { result.hold ≡ grant.hold }
     {
         let StreamGrant {

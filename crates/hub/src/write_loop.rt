@@ -1,6 +1,11 @@
 //! The writing thread of a connection: all that goes to the client.
 
+ghost use Rattle.std.specs.Prelude.{[]};
+ghost use Rattle.shared_log.specs.Readers.{seen_of};
+ghost use Rattle.walsender.specs.Serving.{Serves};
+
 use crate::granting::{end_stream, inform};
+use crate::new_stream::NewStream;
 use crate::stream_desk::{StreamDesk, report};
 use crate::stream_loop::{say, write_stream};
 use crate::streaming::Stream;
@@ -18,7 +23,7 @@ use std::time::Clock;
 pub(crate) struct WriteLoop<'h, L: LogName + SlotName, R: Wait, G: Gate> {
     pub rt: &'h R,
     pub commons: &'h Commons<L>,
-    pub line: &'h Line<Box<Stream<L>>>,
+    pub line: &'h Line<NewStream<L>>,
     pub socket: &'h TcpStream,
     pub gate: &'h G,
     /// The connection's number.
@@ -67,7 +72,7 @@ fn say_first<L: LogName + SlotName, R: Wait, G: Gate>(
 /// The way to its client.
 fn outlet<'h, L: LogName + SlotName, R: Wait, G: Gate>(
     write: &WriteLoop<'h, L, R, G>,
-) -> Outlet<'h, Box<Stream<L>>, R, &'h TcpStream> {
+) -> Outlet<'h, NewStream<L>, R, &'h TcpStream> {
     Outlet {
         rt: write.rt,
         line: write.line,
@@ -79,7 +84,7 @@ fn outlet<'h, L: LogName + SlotName, R: Wait, G: Gate>(
 fn stream_of<L: LogName + SlotName, R: Wait, G: Gate>(
     write: &WriteLoop<'_, L, R, G>,
     work: &Work,
-) -> Option<Box<Stream<L>>> {
+) -> Option<NewStream<L>> {
     if work.phase == Phase::Idle || work.phase == Phase::Startup {
         return None;
     }
@@ -89,9 +94,10 @@ fn stream_of<L: LogName + SlotName, R: Wait, G: Gate>(
 /// Writes a stream from its beginning, and answers why it could not be written to its end.
 fn write_whole<L: LogName + SlotName, R: Wait + Clock, G: Gate>(
     write: &WriteLoop<'_, L, R, G>,
-    mut stream: Box<Stream<L>>,
+    stream: NewStream<L>,
     work: Work,
 ) -> Result<(), ConnectionEnd> {
+    let mut stream = stream.begin();
     let post = write.commons.post_at(Some(stream.place()));
     let written = match post {
         Some(post) => write_begun(write, post, &mut stream, work),
@@ -113,7 +119,9 @@ fn write_begun<L: LogName + SlotName, R: Wait + Clock, G: Gate>(
     post: &SlotPost,
     stream: &mut Stream<L>,
     work: Work,
-) -> Result<(), ConnectionEnd> {
+) -> Result<(), ConnectionEnd>
+    requires { ∥ Serves (seen_of stream.old.walsender.reader) [] stream.old.walsender ∥₁ }
+{
     let WriteLoop {
         rt,
         commons,
