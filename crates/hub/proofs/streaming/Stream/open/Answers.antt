@@ -1,4 +1,4 @@
-use Rattle.std.proofs.Common.{List, [], subst, sym}
+use Rattle.std.proofs.Common.{[], subst, sym}
 use Rattle.std.proofs.Math.Logic.{∥∥₁_map}
 use Rattle.std.proofs.lemmas.List.{append-nil}
 use Rattle.shared_log.specs.Readers.{seen_of}
