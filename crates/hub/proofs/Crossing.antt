@@ -21,6 +21,7 @@ use Rattle.walsender.specs.contracts.walsender.Walsender as walsender
 use Rattle.connections.specs.contracts.line.Line as line
 use Rattle.connections.proofs.Crossing.{arrival_sync, hold_send, inbox_send}
 use Rattle.commons.proofs.Crossing.{commons_sync, selection_send}
+use Rattle.hub.specs.contracts.new_stream.NewStream as new_stream
 use Rattle.hub.specs.contracts.streaming.Stream as stream
 use Rattle.hub.specs.contracts.hub.Hub as hub
 
@@ -48,8 +49,18 @@ module _ (L : RattleType) (s : slot_name.Ghosts L.Denot) (l : log_name.Ghosts L.
   stream_send = declared_send (stream.the_type L s l) (search sendable, (walsender_send, (hold_send L s, (search sendable, (search sendable, (search sendable, (search sendable, (search sendable, tt))))))))
 
   -- a stream in memory of its own
+  abbrev boxed : RattleType
+  boxed = Box.the_row (stream.the_row L s l) Heap.the_row ghosts
+
+  boxed_send : IsSend boxed
+  boxed_send = search (stream_send, heap.crosses, sendable) depth 10
+
+  -- one of which nothing was written
   abbrev begun : RattleType
-  begun = Box.the_row (stream.the_row L s l) Heap.the_row ghosts
+  begun = new_stream.the_row L s l
+
+  begun_send : IsSend begun
+  begun_send = declared_send (new_stream.the_type L s l) (boxed_send, tt)
 
   -- what the two threads of a connection have in common
   pub line_sync : IsSync (line.the_row begun)
@@ -57,7 +68,7 @@ module _ (L : RattleType) (s : slot_name.Ghosts L.Denot) (l : log_name.Ghosts L.
     heap.sync,
     (
       search (inbox_send, heap.crosses, sendable) depth 10,
-      (search (stream_send, heap.crosses, sendable) depth 10, (search (heap.crosses, sendable) depth 10, (search (heap.crosses, sendable) depth 10, tt))),
+      (search (begun_send, heap.crosses, sendable) depth 10, (search (heap.crosses, sendable) depth 10, (search (heap.crosses, sendable) depth 10, tt))),
     ),
   )
 
