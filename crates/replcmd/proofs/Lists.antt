@@ -26,7 +26,7 @@ fails_on Syntax r f is = rw is refl
 fails_on BadName r f is = rw is refl
 fails_on BadPosition r f is = rw is refl
 fails_on Unsupported r f is = rw is refl
-fails_on BadOption r f is = rw is refl
+fails_on (BadOption option) r f is = rw is refl
 
 -- ---- a loop that reads items
 
@@ -102,7 +102,7 @@ module _ {X Y : Type 0} (item : List Y → Result (X × List Y) CmdFault) (more 
   item_stops front s whole BadName going is = item_fails front s whole BadName going is
   item_stops front s whole BadPosition going is = item_fails front s whole BadPosition going is
   item_stops front s whole Unsupported going is = item_fails front s whole Unsupported going is
-  item_stops front s whole BadOption going is = item_fails front s whole BadOption going is
+  item_stops front s whole (BadOption option) going is = item_fails front s whole (BadOption option) going is
 
   pub more_stops : (front : List X) (s : List Y) (whole : Result (List X × List Y) CmdFault) (x : X) (mid : List Y) (d : CmdFault) → Going front s whole
       → item s ≡ found x mid → Fails d (more mid) → Fails d whole
@@ -111,7 +111,7 @@ module _ {X Y : Type 0} (item : List Y → Result (X × List Y) CmdFault) (more 
   more_stops front s whole x mid BadName going read is = more_fails front s whole x mid BadName going read is
   more_stops front s whole x mid BadPosition going read is = more_fails front s whole x mid BadPosition going read is
   more_stops front s whole x mid Unsupported going read is = more_fails front s whole x mid Unsupported going read is
-  more_stops front s whole x mid BadOption going read is = more_fails front s whole x mid BadOption going read is
+  more_stops front s whole x mid (BadOption option) going read is = more_fails front s whole x mid (BadOption option) going read is
 
   start_so : (r : Result (List X × List Y) CmdFault) → with_front [] r ≡ r
   start_so (Ok x) = refl

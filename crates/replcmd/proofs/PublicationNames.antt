@@ -5,6 +5,7 @@ use Rattle.std.specs.Str.{IsUtf8}
 use Rattle.std.proofs.lemmas.Bool.{eqb-true, eq-eqb, ne_eqb}
 use Rattle.std.proofs.lemmas.List.{append-nil, length-append}
 use Rattle.replcmd.specs.declared.fault.CmdFault.TheVariants.{BadOption}
+use Rattle.replcmd.specs.declared.fault.OptionFault.TheVariants.{PublicationNames}
 use Rattle.replcmd.specs.declared.token.Token.{Token}
 use Rattle.replcmd.specs.declared.token.Token.TheVariants.{Unclosed}
 use Rattle.replcmd.specs.declared.token.TheConstants.{COMMA}
@@ -32,13 +33,13 @@ unfolding front_name
 front_is text n rest e = by_token (token_at text) refl e
   where
     by_name : (token : Token) (behind : List ℕ) → token_at text ≡ token_found token behind → (o : Option (List ℕ)) → name_of token ≡ o
-        → (ok_or o BadOption >>= λ name. found name behind) ≡ found n rest → NameFront text n rest
+        → (ok_or o (BadOption PublicationNames) >>= λ name. found name behind) ≡ found n rest → NameFront text n rest
     by_name token behind read None is e = absurd cc
     by_name token behind read (Some m) is e =
         let same = same_found m behind n rest e in
         record { token = token; names = is ∙ ap Some same.0; read = read ∙ ap (token_found token) same.1 }
 
-    by_token : (o : Option (Token × List ℕ)) → token_at text ≡ o → (ok_or o BadOption >>= λ t. ok_or (name_of t.0) BadOption >>= λ name. found name t.1) ≡ found n rest → NameFront text n rest
+    by_token : (o : Option (Token × List ℕ)) → token_at text ≡ o → (ok_or o (BadOption PublicationNames) >>= λ t. ok_or (name_of t.0) (BadOption PublicationNames) >>= λ name. found name t.1) ≡ found n rest → NameFront text n rest
     by_token None is e = absurd cc
     by_token (Some t) is e = by_name t.0 t.1 is (name_of t.0) refl e
 
@@ -48,15 +49,15 @@ comma_found : (text next : List ℕ) → comma_at text ≡ found true next → t
 comma_found [] next e = absurd (let no = (same_found false [] true next e).0 in cc)
 comma_found (b ∷ bytes) next e = by_test (eqb b COMMA) (λ is. eqb-true b COMMA is) e
   where
-    by_test : (t : Bool) → (t ≡ true → b ≡ COMMA) → cond t (found true bytes) (Err BadOption) ≡ found true next → b ∷ bytes ≡ COMMA ∷ next
+    by_test : (t : Bool) → (t ≡ true → b ≡ COMMA) → cond t (found true bytes) (Err (BadOption PublicationNames)) ≡ found true next → b ∷ bytes ≡ COMMA ∷ next
     by_test true same e = ap (λ (c : ℕ). c ∷ bytes) (same refl) ∙ ap (λ (l : List ℕ). COMMA ∷ l) (same_found true bytes true next e).1
     by_test false same e = absurd cc
 
 pub comma_on : (b : ℕ) (rest : List ℕ) → b ≡ COMMA → comma_at (b ∷ rest) ≡ found true rest
-comma_on b rest is = if_true (eqb b COMMA) (found true rest) (Err BadOption) (eq-eqb b COMMA is)
+comma_on b rest is = if_true (eqb b COMMA) (found true rest) (Err (BadOption PublicationNames)) (eq-eqb b COMMA is)
 
-pub comma_refused : (b : ℕ) (rest : List ℕ) → (b ≡ COMMA → ⊥) → comma_at (b ∷ rest) ≡ Err BadOption
-comma_refused b rest other = if_false (eqb b COMMA) (found true rest) (Err BadOption) (ne_eqb b COMMA other)
+pub comma_refused : (b : ℕ) (rest : List ℕ) → (b ≡ COMMA → ⊥) → comma_at (b ∷ rest) ≡ Err (BadOption PublicationNames)
+comma_refused b rest other = if_false (eqb b COMMA) (found true rest) (Err (BadOption PublicationNames)) (ne_eqb b COMMA other)
 
 pub comma_done : (text : List ℕ) → length text ≡ 0 → comma_at text ≡ found false []
 comma_done [] none = refl
@@ -66,7 +67,7 @@ comma_end : (text rest : List ℕ) → comma_at text ≡ found false rest → te
 comma_end [] rest e = refl
 comma_end (b ∷ bytes) rest e = by_test (eqb b COMMA) e
   where
-    by_test : (t : Bool) → cond t (found true bytes) (Err BadOption) ≡ found false rest → b ∷ bytes ≡ []
+    by_test : (t : Bool) → cond t (found true bytes) (Err (BadOption PublicationNames)) ≡ found false rest → b ∷ bytes ≡ []
     by_test true e = absurd (let no = (same_found true bytes false rest e).0 in cc)
     by_test false e = absurd cc
 

@@ -7,12 +7,13 @@ use Rattle.std.specs.List.{filter_map}
 use Rattle.std.specs.Str.{bytes_eq}
 use Rattle.std.proofs.lemmas.List.Sums.{sum_by-cons}
 use Rattle.replcmd.specs.declared.fault.CmdFault.TheVariants.{BadOption}
+use Rattle.replcmd.specs.declared.fault.OptionFault.TheVariants as wrong
 use Rattle.replcmd.specs.declared.token.Token.{Token}
 use Rattle.replcmd.specs.declared.token.Token.TheVariants.{Value}
 use Rattle.replcmd.specs.declared.setting.Setting.{Setting}
 use Rattle.replcmd.specs.declared.setting.Setting.TheVariants.{Version, Publications, Messages, Declined}
-use Rattle.replcmd.specs.declared.setting.Unserved.{Unserved}
-use Rattle.replcmd.specs.declared.setting.Unserved.TheVariants.{Binary, Streaming, TwoPhase}
+use Rattle.replcmd.specs.declared.fault.Unserved.{Unserved}
+use Rattle.replcmd.specs.declared.fault.Unserved.TheVariants.{Binary, Streaming, TwoPhase}
 use Rattle.replcmd.specs.declared.setting.StreamOptions.{StreamOptions}
 use Rattle.replcmd.specs.Reading.{◌>>=◌, name_at, value_at, names_of, truth_of}
 use Rattle.replcmd.specs.Settings.{AreSettings, ComesTo, IsValue, declined_at, declines, declines_twice, is_version, messages_at, messages_of, option_name, options_of_settings, publications_at, publications_of, setting_at, stream_options, told_options, unserved_at, unserved_name, unserved_of, version_at}
@@ -32,10 +33,10 @@ pub record Told (ts : List Token) (s : Setting) (rest : List Token) : Type 0 whe
 
 version_told : (ts : List Token) (s : Setting) (rest : List Token) → version_at ts ≡ found s rest → (v : List ℕ) × (ts ≡ Value v ∷ rest) × (s ≡ Version) × (v ≡ codes "1")
 version_told ts s rest e =
-    let a = bind_ok (value_at ts) (λ value. cond (bytes_eq value.0 (codes "1")) (Ok (Version, value.1)) (Err BadOption)) (s, rest) e in
+    let a = bind_ok (value_at ts) (λ value. cond (bytes_eq value.0 (codes "1")) (Ok (Version, value.1)) (Err (BadOption wrong.Version))) (s, rest) e in
     by_test a.0.0 a.0.1 (value_follows ts a.0.0 a.0.1 a.1) (bytes_eq a.0.0 (codes "1")) refl a.2
   where
-    by_test : (v : List ℕ) (mid : List Token) → ts ≡ Value v ∷ mid → (t : Bool) → bytes_eq v (codes "1") ≡ t → cond t (found Version mid) (Err BadOption) ≡ found s rest
+    by_test : (v : List ℕ) (mid : List Token) → ts ≡ Value v ∷ mid → (t : Bool) → bytes_eq v (codes "1") ≡ t → cond t (found Version mid) (Err (BadOption wrong.Version)) ≡ found s rest
         → (v : List ℕ) × (ts ≡ Value v ∷ rest) × (s ≡ Version) × (v ≡ codes "1")
     by_test v mid front true is e =
         let same = same_found Version mid s rest e in
@@ -52,10 +53,10 @@ publications_told ts s rest e =
 
 messages_told : (ts : List Token) (s : Setting) (rest : List Token) → messages_at ts ≡ found s rest → (v : List ℕ) × (on : Bool) × (ts ≡ Value v ∷ rest) × (s ≡ Messages on) × (truth_of v ≡ Some on)
 messages_told ts s rest e =
-    let a = bind_ok (value_at ts) (λ value. ok_or (truth_of value.0) BadOption >>= λ on. Ok (Messages on, value.1)) (s, rest) e in
+    let a = bind_ok (value_at ts) (λ value. ok_or (truth_of value.0) (BadOption wrong.Messages) >>= λ on. Ok (Messages on, value.1)) (s, rest) e in
     by_truth a.0.0 a.0.1 (value_follows ts a.0.0 a.0.1 a.1) (truth_of a.0.0) refl a.2
   where
-    by_truth : (v : List ℕ) (mid : List Token) → ts ≡ Value v ∷ mid → (o : Option Bool) → truth_of v ≡ o → (ok_or o BadOption >>= λ on. found (Messages on) mid) ≡ found s rest
+    by_truth : (v : List ℕ) (mid : List Token) → ts ≡ Value v ∷ mid → (o : Option Bool) → truth_of v ≡ o → (ok_or o (BadOption wrong.Messages) >>= λ on. found (Messages on) mid) ≡ found s rest
         → (v : List ℕ) × (on : Bool) × (ts ≡ Value v ∷ rest) × (s ≡ Messages on) × (truth_of v ≡ Some on)
     by_truth v mid front None is e = absurd cc
     by_truth v mid front (Some on) is e =
@@ -65,10 +66,10 @@ messages_told ts s rest e =
 declined_told : (option : Unserved) (ts : List Token) (s : Setting) (rest : List Token) → declined_at option ts ≡ found s rest
     → (v : List ℕ) × (ts ≡ Value v ∷ rest) × (s ≡ Declined option) × (is_truth false v ≡ true)
 declined_told option ts s rest e =
-    let a = bind_ok (value_at ts) (λ value. cond (is_truth false value.0) (Ok (Declined option, value.1)) (Err BadOption)) (s, rest) e in
+    let a = bind_ok (value_at ts) (λ value. cond (is_truth false value.0) (Ok (Declined option, value.1)) (Err (BadOption (wrong.NotServed option)))) (s, rest) e in
     by_test a.0.0 a.0.1 (value_follows ts a.0.0 a.0.1 a.1) (is_truth false a.0.0) refl a.2
   where
-    by_test : (v : List ℕ) (mid : List Token) → ts ≡ Value v ∷ mid → (t : Bool) → is_truth false v ≡ t → cond t (found (Declined option) mid) (Err BadOption) ≡ found s rest
+    by_test : (v : List ℕ) (mid : List Token) → ts ≡ Value v ∷ mid → (t : Bool) → is_truth false v ≡ t → cond t (found (Declined option) mid) (Err (BadOption (wrong.NotServed option))) ≡ found s rest
         → (v : List ℕ) × (ts ≡ Value v ∷ rest) × (s ≡ Declined option) × (is_truth false v ≡ true)
     by_test v mid front true is e =
         let same = same_found (Declined option) mid s rest e in
@@ -234,7 +235,7 @@ once_declined settings once =
 pub settings_gathered : (settings : List Setting) (options : StreamOptions) → told_options settings ≡ Ok options → AreSettings settings options
 settings_gathered settings options e = by_twice (declines_twice settings) refl e
   where
-    by_twice : (t : Bool) → declines_twice settings ≡ t → cond t (Err BadOption) (options_of_settings false None None settings) ≡ Ok options → AreSettings settings options
+    by_twice : (t : Bool) → declines_twice settings ≡ t → cond t (Err (BadOption wrong.Redundant)) (options_of_settings false None None settings) ≡ Ok options → AreSettings settings options
     by_twice true is e = absurd cc
     by_twice false is e =
         let come = come_to false None None settings options e in

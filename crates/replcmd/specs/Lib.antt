@@ -5,5 +5,6 @@ pub mod Words
 pub mod Publications
 pub mod Reading
 pub mod Settings
+pub mod Unrecognized
 pub mod Grammar
 pub mod Commands

@@ -10,6 +10,7 @@ use Rattle.std.specs.Char.{digit_value}
 use Rattle.std.specs.Str.Parse.{digits_value}
 use Rattle.replcmd.specs.declared.fault.CmdFault.{CmdFault}
 use Rattle.replcmd.specs.declared.fault.CmdFault.TheVariants.{Syntax, BadName, BadPosition, Unsupported, BadOption, Memory}
+use Rattle.replcmd.specs.declared.fault.OptionFault.TheVariants.{PublicationNames}
 use Rattle.replcmd.specs.declared.token.Token.{Token}
 use Rattle.replcmd.specs.declared.token.Token.TheVariants.{Word, Quoted, Value, Mark}
 use Rattle.replcmd.specs.declared.token.TheConstants.{COMMA, SEMICOLON}
@@ -128,13 +129,13 @@ separated_items item more (suc n) s = do
 
 unfoldable pub front_name : List ℕ → Result (List ℕ × List ℕ) CmdFault
 front_name text = do
-  token ← ok_or (token_at text) BadOption
-  name ← ok_or (name_of token.0) BadOption
+  token ← ok_or (token_at text) (BadOption PublicationNames)
+  name ← ok_or (name_of token.0) (BadOption PublicationNames)
   Ok (name, token.1)
 
 abbrev pub comma_at : List ℕ → Result (Bool × List ℕ) CmdFault
 comma_at [] = Ok (false, [])
-comma_at (b ∷ bytes) = if b == COMMA then Ok (true, bytes) else Err BadOption
+comma_at (b ∷ bytes) = if b == COMMA then Ok (true, bytes) else Err (BadOption PublicationNames)
 
 abbrev pub more_names : List ℕ → Result (Bool × List ℕ) CmdFault
 more_names text = comma_at (after_blanks text)

@@ -9,8 +9,9 @@ use Rattle.replcmd.specs.declared.fault.CmdFault.TheVariants.{BadOption}
 use Rattle.replcmd.specs.declared.token.Token.{Token}
 use Rattle.replcmd.specs.declared.setting.Setting.{Setting}
 use Rattle.replcmd.specs.declared.setting.Setting.TheVariants.{Version, Publications, Messages, Declined}
-use Rattle.replcmd.specs.declared.setting.Unserved.{Unserved}
-use Rattle.replcmd.specs.declared.setting.Unserved.TheVariants.{Binary, Streaming, TwoPhase}
+use Rattle.replcmd.specs.declared.fault.Unserved.{Unserved}
+use Rattle.replcmd.specs.declared.fault.Unserved.TheVariants.{Binary, Streaming, TwoPhase}
+use Rattle.replcmd.specs.declared.fault.OptionFault.TheVariants as wrong
 use Rattle.replcmd.specs.declared.setting.StreamOptions.{StreamOptions}
 use Rattle.replcmd.specs.Publications.{SpellsNames}
 use Rattle.replcmd.specs.Reading.{◌>>=◌, name_at, value_at, names_of, truth_of}
@@ -71,23 +72,23 @@ pub record AreSettings (settings : List Setting) (options : StreamOptions) : Typ
 -- ---- reading
 
 abbrev pub version_at : List Token → Result (Setting × List Token) CmdFault
-version_at tokens = value_at tokens >>= λ value. if bytes_eq value.0 (codes "1") then Ok (Version, value.1) else Err BadOption
+version_at tokens = value_at tokens >>= λ value. if bytes_eq value.0 (codes "1") then Ok (Version, value.1) else Err (BadOption wrong.Version)
 
 abbrev pub publications_at : List Token → Result (Setting × List Token) CmdFault
 publications_at tokens = value_at tokens >>= λ value. names_of value.0 >>= λ names. Ok (Publications names, value.1)
 
 abbrev pub messages_at : List Token → Result (Setting × List Token) CmdFault
-messages_at tokens = value_at tokens >>= λ value. ok_or (truth_of value.0) BadOption >>= λ on. Ok (Messages on, value.1)
+messages_at tokens = value_at tokens >>= λ value. ok_or (truth_of value.0) (BadOption wrong.Messages) >>= λ on. Ok (Messages on, value.1)
 
 abbrev pub declined_at : Unserved → List Token → Result (Setting × List Token) CmdFault
-declined_at option tokens = value_at tokens >>= λ value. if is_truth false value.0 then Ok (Declined option, value.1) else Err BadOption
+declined_at option tokens = value_at tokens >>= λ value. if is_truth false value.0 then Ok (Declined option, value.1) else Err (BadOption (wrong.NotServed option))
 
 abbrev pub unserved_of : List ℕ → Option Unserved
 unserved_of name =
     if bytes_eq name (codes "binary") then Some Binary else if bytes_eq name (codes "streaming") then Some Streaming else if bytes_eq name (codes "two_phase") then Some TwoPhase else None
 
 abbrev pub unserved_at : Option Unserved → List Token → Result (Setting × List Token) CmdFault
-unserved_at None tokens = Err BadOption
+unserved_at None tokens = Err (BadOption wrong.Unrecognized)
 unserved_at (Some option) tokens = declined_at option tokens
 
 unfoldable pub setting_at : List Token → Result (Setting × List Token) CmdFault
@@ -100,14 +101,15 @@ setting_at tokens = name_at tokens >>= λ name.
 -- what is asked of the stream, where the version is told and the publications are
 abbrev pub stream_options : Bool → Option (List (List ℕ)) → Option Bool → Result StreamOptions CmdFault
 stream_options true (Some names) messages = Ok (record { publications = names; messages = unwrap_or messages false })
-stream_options _ _ messages = Err BadOption
+stream_options true None messages = Err (BadOption wrong.PublicationNamesMissing)
+stream_options false names messages = Err (BadOption wrong.VersionMissing)
 
 -- no option twice: whether the version was told, which publications, and what of messages
 abbrev pub options_of_settings : Bool → Option (List (List ℕ)) → Option Bool → List Setting → Result StreamOptions CmdFault
 options_of_settings version names messages [] = stream_options version names messages
-options_of_settings version names messages (Version ∷ settings) = if version then Err BadOption else options_of_settings true names messages settings
-options_of_settings version names messages (Publications chosen ∷ settings) = if is_some names then Err BadOption else options_of_settings version (Some chosen) messages settings
-options_of_settings version names messages (Messages on ∷ settings) = if is_some messages then Err BadOption else options_of_settings version names (Some on) settings
+options_of_settings version names messages (Version ∷ settings) = if version then Err (BadOption wrong.Redundant) else options_of_settings true names messages settings
+options_of_settings version names messages (Publications chosen ∷ settings) = if is_some names then Err (BadOption wrong.Redundant) else options_of_settings version (Some chosen) messages settings
+options_of_settings version names messages (Messages on ∷ settings) = if is_some messages then Err (BadOption wrong.Redundant) else options_of_settings version names (Some on) settings
 options_of_settings version names messages (Declined option ∷ settings) = options_of_settings version names messages settings
 
 -- what isn't served stands twice
@@ -116,4 +118,4 @@ declines_twice settings = nat_lt 1 (count_by (declines Binary) settings) || (nat
 
 -- what these options ask for
 abbrev pub told_options : List Setting → Result StreamOptions CmdFault
-told_options settings = if declines_twice settings then Err BadOption else options_of_settings false None None settings
+told_options settings = if declines_twice settings then Err (BadOption wrong.Redundant) else options_of_settings false None None settings

@@ -3,12 +3,15 @@
 ghost use Rattle.std.specs.Str.{IsUtf8};
 ghost use Rattle.replcmd.specs.Reading.{Answers, LendsName, front_name, names_of};
 
-use crate::fault::CmdFault;
+use crate::fault::{CmdFault, OptionFault};
 use crate::lexer::{after_blanks, token_of};
 use crate::token::COMMA;
 use crate::tokens::name_of;
 use pqformat::{Items, Text};
 use std::alloc::Global;
+
+/// The fault of a text that is no list of names.
+const NO_NAMES: CmdFault = CmdFault::BadOption(OptionFault::PublicationNames);
 
 /// The names that the text spells, one at least; C5 where it spells none.
 #[tactic(auto, unfolding(crate::specs::Reading::names_of))]
@@ -24,7 +27,7 @@ pub(crate) fn names_of(alloc: Global, text: &str) -> Result<Items<Text>, CmdFaul
             return Ok(Items::new(names));
         };
         if *b != COMMA {
-            return Err(CmdFault::BadOption);
+            return Err(NO_NAMES);
         }
         place = rest;
     }
@@ -36,7 +39,7 @@ fn front_name(alloc: Global, text: &[u8]) -> Result<(Text, &[u8]), CmdFault>
     requires { IsUtf8 text.now }
     ensures { LendsName result (front_name text.now) }
 {
-    let (token, rest) = token_of(alloc, text)?.ok_or(CmdFault::BadOption)?;
-    let name = name_of(alloc, &token)?.ok_or(CmdFault::BadOption)?;
+    let (token, rest) = token_of(alloc, text)?.ok_or(NO_NAMES)?;
+    let name = name_of(alloc, &token)?.ok_or(NO_NAMES)?;
     Ok((name, rest))
 }

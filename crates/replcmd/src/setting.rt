@@ -5,7 +5,7 @@ ghost use Rattle.replcmd.specs.Commands.{more_settings, options_at, settings_at}
 ghost use Rattle.replcmd.specs.Reading.{Gives, GivesItems};
 ghost use Rattle.replcmd.specs.Settings.{told_options, options_of_settings, declined_at, declines, declines_twice, messages_at, publications_at, setting_at, unserved_of, version_at};
 
-use crate::fault::CmdFault;
+use crate::fault::{CmdFault, OptionFault, Unserved};
 use crate::publications::names_of;
 use crate::token::{CLOSE, COMMA, OPEN};
 use crate::tokens::Tokens;
@@ -21,17 +21,6 @@ pub struct StreamOptions {
     /// `messages`: whether the messages that sessions put into the log are told too, as those of pg_logical_emit_message
     /// in PostgreSQL; false where nothing is said of them.
     pub messages: bool,
-}
-
-/// An option that isn't served, and may be told to ask for nothing, as clients do that name all they know.
-#[derive(Clone, Copy, PartialEq, Eq)]
-pub(crate) enum Unserved {
-    /// Values in the binary form of their types.
-    Binary,
-    /// Changes of transactions in progress.
-    Streaming,
-    /// Transactions that are prepared.
-    TwoPhase,
 }
 
 /// An option, with what its value says.
@@ -101,12 +90,12 @@ fn setting_of(alloc: Global, tokens: &mut Tokens<'_>) -> Result<Setting, CmdFaul
     }
     match unserved_of(name.as_str()) {
         Some(option) => declined_of(option, tokens),
-        None => Err(CmdFault::BadOption),
+        None => Err(CmdFault::BadOption(OptionFault::Unrecognized)),
     }
 }
 
 /// The option of this name that isn't served.
-fn unserved_of(name: &str) -> Option<Unserved>
+pub(crate) fn unserved_of(name: &str) -> Option<Unserved>
     ensures { result ≡ unserved_of name.now }
 {
     match name {
@@ -126,7 +115,7 @@ fn declined_of(option: Unserved, tokens: &mut Tokens<'_>) -> Result<Setting, Cmd
     if is_off(value.as_str()) {
         return Ok(Setting::Declined(option));
     }
-    Err(CmdFault::BadOption)
+    Err(CmdFault::BadOption(OptionFault::NotServed(option)))
 }
 
 fn version_of(tokens: &mut Tokens<'_>) -> Result<Setting, CmdFault>
@@ -136,7 +125,7 @@ fn version_of(tokens: &mut Tokens<'_>) -> Result<Setting, CmdFault>
     if value.as_str() == "1" {
         return Ok(Setting::Version);
     }
-    Err(CmdFault::BadOption)
+    Err(CmdFault::BadOption(OptionFault::Version))
 }
 
 fn publications_of(alloc: Global, tokens: &mut Tokens<'_>) -> Result<Setting, CmdFault>
@@ -150,7 +139,7 @@ fn messages_of(tokens: &mut Tokens<'_>) -> Result<Setting, CmdFault>
     ensures { Gives result tokens.new (messages_at tokens.old) }
 {
     let value = tokens.value()?;
-    let on = truth_of(value.as_str()).ok_or(CmdFault::BadOption)?;
+    let on = truth_of(value.as_str()).ok_or(CmdFault::BadOption(OptionFault::Messages))?;
     Ok(Setting::Messages(on))
 }
 
@@ -161,7 +150,7 @@ pub(crate) fn gathered(settings: Vec<Setting>) -> Result<StreamOptions, CmdFault
 {
     if declines_twice(settings.as_slice()) {
         drop(settings);
-        return Err(CmdFault::BadOption);
+        return Err(CmdFault::BadOption(OptionFault::Redundant));
     }
     summed(settings)
 }
@@ -208,14 +197,16 @@ fn summed(settings: Vec<Setting>) -> Result<StreamOptions, CmdFault>
             Setting::Publications(names) if publications.is_none() => publications = Some(names),
             Setting::Messages(on) if messages.is_none() => messages = Some(on),
             Setting::Declined(_) => {}
-            _ => return Err(CmdFault::BadOption),
+            _ => return Err(CmdFault::BadOption(OptionFault::Redundant)),
         }
     }
     if !version {
-        return Err(CmdFault::BadOption);
+        return Err(CmdFault::BadOption(OptionFault::VersionMissing));
     }
     Ok(StreamOptions {
-        publications: publications.ok_or(CmdFault::BadOption)?,
+        publications: publications.ok_or(CmdFault::BadOption(
+            OptionFault::PublicationNamesMissing,
+        ))?,
         messages: messages.unwrap_or(false),
     })
 }

@@ -46,5 +46,5 @@ not_read Syntax c other is = absurd cc
 not_read BadName c other is = absurd cc
 not_read BadPosition c other is = absurd cc
 not_read Unsupported c other is = absurd cc
-not_read BadOption c other is = absurd cc
+not_read (BadOption fault) c other is = absurd cc
 not_read Memory c other is = other refl

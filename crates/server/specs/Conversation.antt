@@ -17,7 +17,8 @@ use Rattle.server.specs.declared.table_name.TableName.{TableName}
 use Rattle.server.specs.Answers.{path_set, mode_shown, publications_told, tables_told}
 use Rattle.server.specs.Calls.{Call, End, System, CreateSlot, DropSlot, StartStream, AreAsked}
 use Rattle.server.specs.Calls as calls
-use Rattle.server.specs.Said.{error_and_ready, answer_to_identify, answer_to_create, answer_to_drop, answer_to_start}
+use Rattle.server.specs.Refusals.{TellsRefusal}
+use Rattle.server.specs.Said.{error_and_ready, refused_with, answer_to_identify, answer_to_create, answer_to_drop, answer_to_start}
 use Rattle.server.specs.declared.question.Question.{Question}
 use Rattle.server.specs.declared.question.Question.TheVariants.{SearchPath, DirectoryMode, InitialCopy, Publications, Tables, DropWhenFree}
 use Rattle.server.specs.Questions.{SpellsQuestion}
@@ -64,7 +65,9 @@ HasShortSlot _ = Unit {0}
 pub record IsRefused (why : CmdFault → Refusal) (query : List ℕ) (asked : List Call) (text : List ℕ) : Type 0 where
   pub fault : CmdFault
   pub nothing : asked ≡ []
-  pub answer : text ≡ error_and_ready (why fault)
+  pub told : List ℕ
+  pub tells : TellsRefusal (why fault) query told
+  pub answer : text ≡ refused_with (why fault) told
   pub read : Tells query (Err fault)
   pub no_command : fault ≢ commands.Memory → (c : Command) → SpellsCommand query c → ⊥
 

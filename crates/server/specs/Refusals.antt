@@ -1,9 +1,13 @@
 -- What an ErrorResponse says of each cause (PostgreSQL 15, appendix A): the code, and the text.
-use Rattle.std.specs.Prelude.{ℕ, List, [], ◌∷◌, ◌++◌, length, nat_le, Option, Some, None, codes, if◌then◌else◌}
+use Rattle.std.specs.Prelude.{◌≡◌, ℕ, List, [], ◌∷◌, ◌++◌, length, nat_le, Option, Some, None, codes, if◌then◌else◌}
 use Rattle.replcmd.specs.Position.{position_text}
 use Rattle.server.specs.declared.naming.TheConstants.{MOST_NAME_BYTES}
 use Rattle.replcmd.specs.declared.fault.CmdFault.{CmdFault}
 use Rattle.replcmd.specs.declared.fault.CmdFault.TheVariants as commands
+use Rattle.replcmd.specs.declared.fault.OptionFault.{OptionFault}
+use Rattle.replcmd.specs.declared.fault.OptionFault.TheVariants as options
+use Rattle.replcmd.specs.declared.fault.Unserved.TheVariants as unserved
+use Rattle.replcmd.specs.Unrecognized.{Unrecognized}
 use Rattle.server.specs.declared.desk_fault.DeskFault.{DeskFault}
 use Rattle.server.specs.declared.desk_fault.StartAhead.{StartAhead}
 use Rattle.server.specs.declared.desk_fault.DeskFault.TheVariants as desks
@@ -15,15 +19,28 @@ command_code commands.Syntax = codes "42601"
 command_code commands.BadName = codes "42602"
 command_code commands.BadPosition = codes "42601"
 command_code commands.Unsupported = codes "0A000"
-command_code commands.BadOption = codes "22023"
+command_code (commands.BadOption fault) = codes "22023"
 command_code commands.Memory = codes "53200"
+
+-- what is wrong with an option, in PostgreSQL's words where it has some
+abbrev pub option_text : OptionFault → List ℕ
+option_text options.Unrecognized = codes "unrecognized pgoutput option"
+option_text options.Version = codes "invalid proto_version: only 1 is served"
+option_text options.PublicationNames = codes "invalid publication_names syntax"
+option_text options.Messages = codes "messages requires a Boolean value"
+option_text (options.NotServed unserved.Binary) = codes "binary is not served"
+option_text (options.NotServed unserved.Streaming) = codes "streaming is not served"
+option_text (options.NotServed unserved.TwoPhase) = codes "two_phase is not served"
+option_text options.Redundant = codes "conflicting or redundant options"
+option_text options.VersionMissing = codes "proto_version parameter missing"
+option_text options.PublicationNamesMissing = codes "publication_names parameter missing"
 
 abbrev pub command_text : CmdFault → List ℕ
 command_text commands.Syntax = codes "syntax error"
 command_text commands.BadName = codes "bad slot name"
 command_text commands.BadPosition = codes "bad position"
 command_text commands.Unsupported = codes "not supported"
-command_text commands.BadOption = codes "bad option: proto_version '1', publication_names and messages are served"
+command_text (commands.BadOption fault) = option_text fault
 command_text commands.Memory = codes "out of memory"
 
 abbrev pub desk_code : DeskFault → List ℕ
@@ -69,6 +86,16 @@ refusal_text FunctionCall = codes "function calls not supported: only simple que
 refusal_text (Command fault) = command_text fault
 refusal_text (Question fault) = codes "not answered without --answer-postgresql"
 refusal_text (Asked fault) = desk_text fault
+
+-- an option that isn't known is named; a name that is too long for one isn't repeated
+abbrev pub unrecognized_text : Option (List ℕ) → List ℕ
+unrecognized_text None = option_text options.Unrecognized
+unrecognized_text (Some name) = if nat_le (length name) MOST_NAME_BYTES then codes "unrecognized pgoutput option: " ++ name else option_text options.Unrecognized
+
+-- the text by which a query is refused
+abbrev pub TellsRefusal : Refusal → List ℕ → List ℕ → Type 0
+TellsRefusal (Command (commands.BadOption options.Unrecognized)) query text = (name : Option (List ℕ)) × Unrecognized query name × (text ≡ unrecognized_text name)
+TellsRefusal refusal query text = text ≡ refusal_text refusal
 
 -- what is at fault, named as PostgreSQL 15 names it
 abbrev pub named_slot : List ℕ → List ℕ → List ℕ

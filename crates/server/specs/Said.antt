@@ -41,6 +41,10 @@ ready = sent_frame (ReadyForQuery statuses.Idle)
 abbrev pub error_and_ready : Refusal → List ℕ
 error_and_ready refusal = error_of_refusal refusal ++ ready
 
+-- so is one that is refused by a text of its own
+unfoldable pub refused_with : Refusal → List ℕ → List ℕ
+refused_with refusal text = sent_frame (error_frame (refusal_code refusal) text) ++ ready
+
 -- what was asked of this slot is refused: the session goes on
 unfoldable pub slot_refused : DeskFault → List ℕ → List ℕ
 slot_refused fault slot = sent_frame (error_frame (desk_code fault) (slot_text fault slot)) ++ ready

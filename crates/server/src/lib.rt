@@ -17,6 +17,7 @@ mod query;
 mod question;
 mod quoted;
 mod refusal;
+mod refused_query;
 mod replying;
 mod say;
 mod say_answers;

@@ -8,7 +8,8 @@ use crate::database::Database;
 use crate::desk::Desk;
 use crate::desk_fault::DeskFault;
 use crate::refusal::Refusal;
-use crate::say::{say_created, say_dropped, say_identified, say_refused_ready};
+use crate::refused_query::{refusal_text, say_refused_with};
+use crate::say::{say_created, say_dropped, say_identified};
 use crate::starting::say_started;
 use bytes::BytesMut;
 use pqformat::Text;
@@ -156,7 +157,8 @@ pub(crate) fn reply<D: Desk>(
         Err(fault) => {
             let refusal = why(is_question, fault);
             desk.refused(query, refusal);
-            say_refused_ready(alloc, out, refusal)?;
+            let text = refusal_text(alloc, refusal, query)?;
+            say_refused_with(alloc, out, refusal, text.as_str())?;
             Ok(false)
         }
     }

@@ -1,10 +1,10 @@
 //! Why a session or a command is refused, as the client is told it.
 
 ghost use Rattle.std.specs.Prelude.{◌≡◌, ◌≤◌, length};
-ghost use Rattle.server.specs.Refusals.{command_code, refusal_code, refusal_text};
+ghost use Rattle.server.specs.Refusals.{command_code, command_text, option_text, refusal_code, refusal_text};
 
 use crate::desk_fault::DeskFault;
-use replcmd::CmdFault;
+use replcmd::{CmdFault, OptionFault, Unserved};
 use std::fmt;
 
 /// A cause with a code of its own (PostgreSQL 15, appendix A) and a text.
@@ -53,15 +53,7 @@ impl Refusal {
                 "08P01",
                 "function calls not supported: only simple queries are served",
             ),
-            Refusal::Command(CmdFault::Syntax) => ("42601", "syntax error"),
-            Refusal::Command(CmdFault::BadName) => ("42602", "bad slot name"),
-            Refusal::Command(CmdFault::BadPosition) => ("42601", "bad position"),
-            Refusal::Command(CmdFault::Unsupported) => ("0A000", "not supported"),
-            Refusal::Command(CmdFault::BadOption) => (
-                "22023",
-                "bad option: proto_version '1', publication_names and messages are served",
-            ),
-            Refusal::Command(CmdFault::Memory) => ("53200", "out of memory"),
+            Refusal::Command(fault) => (code_of(fault), text_of(fault)),
             Refusal::Question(fault) => {
                 (code_of(fault), "not answered without --answer-postgresql")
             }
@@ -93,8 +85,41 @@ fn code_of(fault: CmdFault) -> &'static str
         CmdFault::BadName => "42602",
         CmdFault::BadPosition => "42601",
         CmdFault::Unsupported => "0A000",
-        CmdFault::BadOption => "22023",
+        CmdFault::BadOption(_) => "22023",
         CmdFault::Memory => "53200",
+    }
+}
+
+fn text_of(fault: CmdFault) -> &'static str
+    ensures text { result.now ≡ command_text fault }
+    ensures short { length result.now ≤ 80 }
+{
+    match fault {
+        CmdFault::Syntax => "syntax error",
+        CmdFault::BadName => "bad slot name",
+        CmdFault::BadPosition => "bad position",
+        CmdFault::Unsupported => "not supported",
+        CmdFault::BadOption(fault) => option_text(fault),
+        CmdFault::Memory => "out of memory",
+    }
+}
+
+/// What is wrong with an option, in PostgreSQL's words where it has some.
+fn option_text(fault: OptionFault) -> &'static str
+    ensures text { result.now ≡ option_text fault }
+    ensures short { length result.now ≤ 80 }
+{
+    match fault {
+        OptionFault::Unrecognized => "unrecognized pgoutput option",
+        OptionFault::Version => "invalid proto_version: only 1 is served",
+        OptionFault::PublicationNames => "invalid publication_names syntax",
+        OptionFault::Messages => "messages requires a Boolean value",
+        OptionFault::NotServed(Unserved::Binary) => "binary is not served",
+        OptionFault::NotServed(Unserved::Streaming) => "streaming is not served",
+        OptionFault::NotServed(Unserved::TwoPhase) => "two_phase is not served",
+        OptionFault::Redundant => "conflicting or redundant options",
+        OptionFault::VersionMissing => "proto_version parameter missing",
+        OptionFault::PublicationNamesMissing => "publication_names parameter missing",
     }
 }
 

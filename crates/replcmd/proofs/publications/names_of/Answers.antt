@@ -2,6 +2,7 @@ use Rattle.std.proofs.Common.{◌≡◌, suc, true, [], ◌∷◌, length, Ok, E
 use Rattle.std.specs.Str.{IsUtf8}
 use Rattle.std.proofs.lemmas.Result.{err_from_is_err_and}
 use Rattle.replcmd.specs.declared.fault.CmdFault.TheVariants.{BadOption}
+use Rattle.replcmd.specs.declared.fault.OptionFault.TheVariants.{PublicationNames}
 use Rattle.replcmd.specs.Reading.{comma_at, front_name, more_names, names_of, separated_items}
 use Rattle.replcmd.proofs.Lists.{found, fails_on, goes_on, is_done, item_stops, more_fails}
 use Rattle.replcmd.proofs.PublicationNames.{names_shorten, name_rest_is_text, blanks_shorten, comma_on, comma_done, comma_refused}
@@ -32,8 +33,8 @@ returns-then-b-ne-COMMA c =
     let whole = separated_items front_name more_names (suc (length c.args.text.now)) c.args.text.now in
     let read : front_name c.loop-names.place.now ≡ found c.in_ok-name.name c.in_ok-name.behind.now = search rules in
     let front : c.after_blanks.result.now ≡ c.in-Some.b.now ∷ c.in-Some.rest.now = search rules in
-    let other : more_names c.in_ok-name.behind.now ≡ Err BadOption = ap comma_at (sym c.after_blanks.ensures ∙ front) ∙ comma_refused c.in-Some.b.now c.in-Some.rest.now c.if-b-ne-COMMA.true in
-    rw (more_fails front_name more_names c.loop-names.names.items c.loop-names.place.now whole c.in_ok-name.name c.in_ok-name.behind.now BadOption c.loop-names.invariant.going read other)
+    let other : more_names c.in_ok-name.behind.now ≡ Err (BadOption PublicationNames) = ap comma_at (sym c.after_blanks.ensures ∙ front) ∙ comma_refused c.in-Some.b.now c.in-Some.rest.now c.if-b-ne-COMMA.true in
+    rw (more_fails front_name more_names c.loop-names.names.items c.loop-names.place.now whole c.in_ok-name.name c.in_ok-name.behind.now (BadOption PublicationNames) c.loop-names.invariant.going read other)
 
 pub loop-names-smaller : goal.loop-names-smaller
 loop-names-smaller c =

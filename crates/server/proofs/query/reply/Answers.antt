@@ -1,6 +1,7 @@
 use Rattle.std.proofs.Common.{[], refl, inl, inr}
+use Rattle.std.specs.Prelude.{string_bytes}
 use Rattle.server.specs.Conversation.{Runs, Replies, why_of}
-use Rattle.server.specs.Said.{error_and_ready}
+use Rattle.server.specs.Said.{refused_with}
 use Rattle.server.proofs.Names.{short_slot}
 use Rattle.server.proofs.Steps.{not_read, answered_as}
 use Rattle.server.proofs.query.reply.Goals as goal
@@ -13,14 +14,16 @@ returns-in-Ok g c =
     answered_as g.D.Desk.told c.run-answered.result (λ begun. Runs c.args.database.now c.in-Ok.command begun) (λ begun. Replies (why_of c.args.is_question) c.args.database.now c.args.query.now begun) c.args.desk.now c.args.out.now.items c.run-answered.new.desk c.run-answered.new.out.items
     (λ begun asked text fact. inl (c.in-Ok.command, c.in-Ok.ensures.found, fact)) c.run-answered.ensures
 
-pub returns-in_ok-say_refused_ready-in-Err : goal.returns-in_ok-say_refused_ready-in-Err
-returns-in_ok-say_refused_ready-in-Err g c = record {
+pub returns-in_ok-say_refused_with-in-Err : goal.returns-in_ok-say_refused_with-in-Err
+returns-in_ok-say_refused_with-in-Err g c = record {
   asked = [];
-  text = error_and_ready (why_of c.args.is_question c.in-Err.fault);
+  text = refused_with (why_of c.args.is_question c.in-Err.fault) (string_bytes c.in_ok-text-in-Err.text);
   fact = inr (
     record {
       fault = c.in-Err.fault;
       nothing = refl;
+      told = string_bytes c.in_ok-text-in-Err.text;
+      tells = rw c.why-refusal.ensures at c.in_ok-text-in-Err.ensures.text;
       answer = refl;
       read = c.in-Err.ensures.exact;
       no_command = λ other command spells. not_read c.in-Err.fault command other (c.in-Err.ensures.only command spells);
@@ -28,5 +31,5 @@ returns-in_ok-say_refused_ready-in-Err g c = record {
     refl,
   );
   asks = refl;
-  says = rw c.why-refusal.ensures at c.in_ok-say_refused_ready-in-Err.ensures;
+  says = rw (c.why-refusal.ensures, c.as_str.ensures.value) at c.in_ok-say_refused_with-in-Err.ensures;
 }
