@@ -99,7 +99,7 @@ static int take_frames(struct stream *stream)
     return ended;
 }
 
-/* Waits for the end of an answer. It is E where the answer is an error, whose end may come behind it. */
+/* Waits for the end of an answer. It is E where the answer is an error, whose end may come after it. */
 static int wait_for_answer(struct stream *stream)
 {
     int ended;

@@ -45,7 +45,7 @@ def steps(top):
             ("shared_log walsender", "It is fetched, up to 1,024 records at a time", ["the same record, shared and not copied"], ""),
             ("reorder chgarena", "It waits with its transaction for the Commit", ["a copy in the arena, in the strand of 700"], "rolled back or aborted: given back, never sent"),
             ("publication rowfilter", "The Commit is read: which of it is published?", ["operation, row filter, column list: all of it"], "not published: no message"),
-            ("publication pgoutput", "It becomes a message, behind its Relation", [message], ""),
+            ("publication pgoutput", "It becomes a message, after its Relation", [message], ""),
             ("walsender copyboth frames", "The message goes into XLogData, into CopyData", [head, "and the message"], ""),
             ("hub", "A turn's bytes go to the socket", ["Begin, Relation, Insert, Commit: 253 bytes"], ""),
         ]),

@@ -30,7 +30,7 @@ static void put_int64(char *bytes, uint64_t value)
         bytes[i] = (char)(value >> (56 - 8 * i));
 }
 
-/* Sends a command, and prints its row, if there is one, behind the word. */
+/* Sends a command, and prints its row, if there is one, after the word. */
 static void ask(PGconn *connection, const char *command, ExecStatusType due, const char *word)
 {
     PGresult *result = PQexec(connection, command);

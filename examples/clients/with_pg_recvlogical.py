@@ -1,6 +1,6 @@
 """Follows transactions of a running pubd by pg_recvlogical: with_pg_recvlogical.py PUBD
 
-It makes a slot, writes what comes to a file, is ended by a signal, goes on behind what it had, and drops the slot.
+It makes a slot, writes what comes to a file, is ended by a signal, goes on after what it had, and drops the slot.
 """
 import pathlib
 import shutil
@@ -21,7 +21,7 @@ RELATION = (
 
 
 def due_of(begin, end, number, key):
-    """The messages of a transaction of one insert, each with the line end that pg_recvlogical puts behind it."""
+    """The messages of a transaction of one insert, each with the line end that pg_recvlogical puts after it."""
     messages = [
         f"42 {begin} 0000000000000005 {number:08x}",
         RELATION,

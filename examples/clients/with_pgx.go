@@ -30,7 +30,7 @@ func position(bytes []byte) string {
 	return fmt.Sprintf("%X/%X", binary.BigEndian.Uint32(bytes), binary.BigEndian.Uint32(bytes[4:]))
 }
 
-// Sends a command, and prints its row, if there is one, behind the word.
+// Sends a command, and prints its row, if there is one, after the word.
 func ask(connection *pgconn.PgConn, command string, word string) {
 	results, err := connection.Exec(always, command).ReadAll()
 	check(err)

@@ -128,7 +128,7 @@ def comes(what, seconds=SECONDS):
 
 
 def filled(postgres, server, rows):
-    """Runs the transactions, with cuts; what is wrong with the rows behind them."""
+    """Runs the transactions, with cuts; what is wrong with the rows after them."""
     cuts = 0
     for at in range(TRANSACTIONS):
         if rows.by.random() < 0.03:

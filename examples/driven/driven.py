@@ -7,7 +7,7 @@
         end = publisher.say("commit T")            # '0/1000050', where the transaction ends
         publisher.say("await s stream 5")          # until a client streams from the slot s, for five seconds at most
         publisher.say(f"await s {end} 5")          # until s is confirmed there
-        publisher.say("cut s 100")                 # its connection, behind 100 more bytes
+        publisher.say("cut s 100")                 # its connection, after 100 more bytes
 
 Each line is done before `say` returns, so a test decides what commits, and when, beside what its consumer does. The publisher ends
 with its input, so nothing of it stays where the test ends. Another one at the same port is `Publisher(.., port=publisher.port)`.
@@ -24,9 +24,11 @@ class Refused(Exception):
 
 
 class Publisher:
-    def __init__(self, pubd, configuration, connections="forever", options=(), port=0, errors=None):
+    def __init__(self, pubd, configuration, connections="forever", options=(), port=0, errors=None, apart=False):
+        """Set apart, it doesn't hear the ctrl-C of the terminal."""
         words = [pubd, *options, configuration, f"127.0.0.1:{port}", str(connections), "-"]
-        self.process = subprocess.Popen(words, stdin=subprocess.PIPE, stdout=subprocess.PIPE, stderr=errors, text=True, bufsize=1)
+        pipes = {"stdin": subprocess.PIPE, "stdout": subprocess.PIPE, "stderr": errors}
+        self.process = subprocess.Popen(words, **pipes, text=True, bufsize=1, start_new_session=apart)
         self.port = self.port_told()
         self.status_port = self.port_told() if "--status" in options else None
 

@@ -23,7 +23,7 @@ def of_help(text):
 
 
 def of_manual(text):
-    """The same of the section OPTIONS, where each stands behind a .TP."""
+    """The same of the section OPTIONS, where each stands after a .TP."""
     section = re.search(r"^\.SH OPTIONS$(.*?)^\.SH ", plain(text), re.MULTILINE | re.DOTALL).group(1)
     found = set()
     for macro, line in re.findall(r"^\.TP\n\.([A-Z]+) (.*)$", section, re.MULTILINE):
@@ -41,7 +41,7 @@ def lines(text):
 
 
 def examples(text):
-    """The words of each command behind a $, with the lines that it is shown to print."""
+    """The words of each command after a $, with the lines that it is shown to print."""
     found = []
     for block in re.findall(r"^(?:```|\.EX)\n(\$ .*?)^(?:```|\.EE)$", plain(text), re.MULTILINE | re.DOTALL):
         command, _, due = block.partition("\n")

@@ -82,7 +82,7 @@ from server import FIRST, NOBODY, Server, inserts, printed_of_inserts
 from showing import what_runs_is_told
 from steering import (
     a_client_is_asked_and_awaited,
-    a_connection_is_cut_behind_a_byte,
+    a_connection_is_cut_after_a_byte,
     a_script_steers_too,
     a_server_ends_in_order,
     a_stream_is_held_and_let_go,
@@ -333,7 +333,7 @@ def a_slow_reader_holds_up_nobody(pubd, subcat):
 
 
 def a_transaction_that_is_too_large_ends_its_stream(pubd, subcat):
-    """One that needs all chunks of a stream is sent; one of a row more ends the stream behind it, also where it is asked for again."""
+    """One that needs all chunks of a stream is sent; one of a row more ends the stream after it, also where it is asked for again."""
     rows, long = 2 * CHUNKS, "n" * 7900
     more = [f"insert T public.item ({k},'{long}',7)" for k in range(rows + 1, 2 * rows + 2)]
     with Server(pubd, 2, [*inserts(rows, rows, long), "begin T", *more, "commit T 9"], awaited=1) as server:
@@ -351,7 +351,7 @@ def a_transaction_that_is_too_large_ends_its_stream(pubd, subcat):
 
 
 def two_followers_print_what_a_script_commits(pubd, subcat):
-    """100 transactions on a script's thread, followed from two slots, and a line behind them that is refused."""
+    """100 transactions on a script's thread, followed from two slots, and a line after them that is refused."""
     count = 100
     with Server(pubd, 2, [*inserts(count), "commit T 101"], awaited=2) as server:
         words = [[subcat, "--create", f"127.0.0.1:{server.port}", slot, "0/0", "p", str(count)] for slot in ("s", "t")]
@@ -416,7 +416,7 @@ ALL = [
     closed_descriptors_are_nobody_s,
     nobody_waits_for_a_reader_of_what_is_told,
     a_stream_is_held_and_let_go,
-    a_connection_is_cut_behind_a_byte,
+    a_connection_is_cut_after_a_byte,
     a_client_is_asked_and_awaited,
     a_server_ends_in_order,
     a_script_steers_too,

@@ -1,4 +1,4 @@
-"""How a connection may end behind an acknowledgement. Each case answers what is wrong, a line each."""
+"""How a connection may end after an acknowledgement. Each case answers what is wrong, a line each."""
 import time
 
 from connection import TERMINATE, Connection, status
@@ -9,14 +9,14 @@ TIMES = 100
 
 
 def an_acknowledgement_holds_over_a_close(pubd, subcat):
-    """However its connection ends behind it: the next stream of the slot begins with the next transaction."""
+    """However its connection ends after it: the next stream of the slot begins with the next transaction."""
     ways = [in_one_write, in_two_writes, without_terminate, by_a_reset, with_unread_bytes]
     return lost_over_closes(pubd, ways, TIMES * len(ways) + 1, "ab")
 
 
 def an_acknowledgement_holds_over_a_blocked_write(pubd, subcat):
     """The same of a client that reads nothing more of a stream of 12 MB, so that the server's write waits."""
-    return lost_over_closes(pubd, [behind_a_blocked_write], 6000, "n" * 2000)
+    return lost_over_closes(pubd, [after_a_blocked_write], 6000, "n" * 2000)
 
 
 def lost_over_closes(pubd, ways, rows, name):
@@ -71,7 +71,7 @@ def with_unread_bytes(client, end, rest):
     client.close()
 
 
-def behind_a_blocked_write(client, end, rest):
+def after_a_blocked_write(client, end, rest):
     time.sleep(0.05)
     client.socket.sendall(status(end))
     client.close()

@@ -70,7 +70,7 @@ class Connection:
         return head[:1], self.bytes.read(struct.unpack(">I", head[1:])[0] - 4)
 
     def answers(self, last=b"Z"):
-        """The frames up to one of this type. What the server refuses is raised, behind its ReadyForQuery."""
+        """The frames up to one of this type. What the server refuses is raised, after its ReadyForQuery."""
         frames, refused = [], None
         while not frames or frames[-1][0] != last:
             frames.append(self.frame())

@@ -79,7 +79,7 @@ def transactions(messages):
 
 def sixteen_clients_at_sixteen_slots(pubd, subcat):
     """Slots that sixteen clients make, claim, confirm and drop beside one another: sixteen can be made, one client holds each, and
-    its next holder begins right behind what was confirmed. What was dropped is gone."""
+    its next holder begins right after what was confirmed. What was dropped is gone."""
     rows = [line for k in range(1, ROWS + 1) for line in ("begin T", f"insert T public.item ({k},'a',1)", f"commit T {k}")]
     with Server(pubd, CONNECTIONS, rows, awaited=1) as server:
         slots = Slots(server.port)
@@ -152,7 +152,7 @@ class Slots:
         client.socket.sendall(status(end) + TERMINATE)
 
     def see(self, client, name):
-        """A stream begins right behind what was confirmed."""
+        """A stream begins right after what was confirmed."""
         due = next(end for end in self.ends if end > self.confirmed.get(name, 0))
         self.wrong += [f"{name} begins elsewhere"] * (client.commits(1) != [due])
 

@@ -13,7 +13,7 @@ class Cutting:
     """It cuts so many connections in all, each when so many bytes have passed as `limit` draws, and no other."""
 
     def __init__(self, port, cuts, limit, draw):
-        self.behind, self.left, self.limit, self.draw = port, cuts, limit, draw
+        self.served, self.left, self.limit, self.draw = port, cuts, limit, draw
         self.lock, self.victim, self.strike_in = threading.Lock(), None, 0
         self.listener = socket.create_server(("127.0.0.1", 0))
         self.port = self.listener.getsockname()[1]
@@ -26,10 +26,10 @@ class Cutting:
         self.listener.shutdown(socket.SHUT_RDWR)
         self.listener.close()
 
-    def strike(self, victim, behind):
+    def strike(self, victim, after):
         """Kills the process when so many more bytes have passed."""
         with self.lock:
-            self.victim, self.strike_in = victim, behind
+            self.victim, self.strike_in = victim, after
 
     def listen(self):
         while True:
@@ -40,7 +40,7 @@ class Cutting:
             threading.Thread(target=self.serve, args=(client,), daemon=True).start()
 
     def serve(self, client):
-        server = socket.create_connection(("127.0.0.1", self.behind))
+        server = socket.create_connection(("127.0.0.1", self.served))
         try:
             if self.relay(client, server):
                 self.cut(client, server)

@@ -62,7 +62,7 @@ def a_driven_server_ends_with_its_input(pubd, subcat):
     for lines, due in (("", []), ("await s stream\n", ["A1 the server ends"])):
         ran = subprocess.run([pubd, CONFIGURATION, "127.0.0.1:0", "forever", "-"], input=lines, capture_output=True, text=True, timeout=60)
         told = ran.stdout.splitlines()[1:]
-        wrong += [f"behind {lines!r} it ends with {ran.returncode}, and says {told}"] * (ran.returncode != 0 or told != due)
+        wrong += [f"after {lines!r} it ends with {ran.returncode}, and says {told}"] * (ran.returncode != 0 or told != due)
     with Publisher(pubd, CONFIGURATION, options=["--keep-serving"]) as publisher:
         publisher.process.stdin.close()
         publisher.process.stdin = None
@@ -91,7 +91,7 @@ def a_bad_line_is_answered_like_any_other(pubd, subcat):
 
 
 def texts_have_escapes_and_commits_the_time(pubd, subcat):
-    """What PostgreSQL writes behind E comes to a client as it is meant, and a commit without a time has the clock's."""
+    """What PostgreSQL writes after E comes to a client as it is meant, and a commit without a time has the clock's."""
     with Publisher(pubd, CONFIGURATION) as publisher:
         client = Connection(publisher.port)
         client.create("s")
@@ -148,14 +148,14 @@ def wrong_end_of_waits(server):
 
 
 def lines_that_steer_pass_one_that_waits(pubd, subcat):
-    """While one waits, a cut behind it is done; `end` ends the wait, and then the server; answers stand in the order of the lines."""
+    """While one waits, a cut after it is done; `end` ends the wait, and then the server; answers stand in the order of the lines."""
     with Publisher(pubd, CONFIGURATION) as publisher:
         client = Connection(publisher.port)
         client.create("s")
         client.start("s")
         for line in ("await s FFFFFFFF/0", "begin T", "cut s", "end t"):
             print(line, file=publisher.process.stdin)
-        wrong = ["a cut behind a line that waits isn't done"] * (client.bytes.read()[:1] not in (b"", b"d"))
+        wrong = ["a cut after a line that waits isn't done"] * (client.bytes.read()[:1] not in (b"", b"d"))
         client.close()
         print("end", file=publisher.process.stdin)
         told = [publisher.process.stdout.readline().rstrip("\n") for _ in range(5)]

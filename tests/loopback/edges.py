@@ -111,7 +111,7 @@ def a_slow_reader_of_the_page_holds_up_nobody(pubd, subcat):
         with socket.create_connection(address, timeout=60) as slow:
             wrong += ["a slow request goes on for ever"] * (not is_closed(slow))
         took = time.monotonic() - begun
-        wrong += [f"a slow request is closed behind {took:.1f} s"] * (not PATIENCE - 1 < took < 3 * PATIENCE)
+        wrong += [f"a slow request is closed after {took:.1f} s"] * (not PATIENCE - 1 < took < 3 * PATIENCE)
         with socket.create_connection(address, timeout=60) as slow:
             slow.sendall(b"G")
             time.sleep(0.2)

@@ -36,7 +36,7 @@ def an_extended_query_is_refused_and_its_session_goes_on(pubd, subcat):
     asked = {
         "a whole one": (sent(PARSE, BIND, DESCRIBE, EXECUTE, SYNC, QUERY), "EZ" + IDENTIFIED, 1),
         "a statement that is closed": (sent(CLOSE, SYNC, QUERY), "EZ" + IDENTIFIED, 1),
-        "two, one behind the other": (sent(PARSE, SYNC, EXECUTE, SYNC, QUERY), "EZEZ" + IDENTIFIED, 2),
+        "two, one after the other": (sent(PARSE, SYNC, EXECUTE, SYNC, QUERY), "EZEZ" + IDENTIFIED, 2),
         "a query before its Sync": (sent(PARSE, QUERY, (b"d", b"r"), FUNCTION_CALL, FLUSH, SYNC, QUERY), "EZ" + IDENTIFIED, 1),
         "a Flush and a Sync alone": (sent(FLUSH, SYNC, QUERY), "Z" + IDENTIFIED, 0),
         "a function call": (sent(FUNCTION_CALL, QUERY), "EZ" + IDENTIFIED, 1),

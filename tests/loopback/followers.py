@@ -141,7 +141,7 @@ def wrong_of(status, said, due):
     return [f"it ended with {status}, and said {said!r}"] * (status != 1 or not said.startswith(due))
 
 
-def follow(words, rows, at, kill_behind):
+def follow(words, rows, at, kill_after):
     """Keeps the rows of each transaction that comes whole and was not there; answers where the last one ends."""
     follower = subprocess.Popen(words, stdout=subprocess.PIPE, stderr=subprocess.DEVNULL, text=True)
     of_this, commits = [], 0
@@ -156,7 +156,7 @@ def follow(words, rows, at, kill_behind):
             if position(rest[1]) > at:
                 rows += of_this
                 at = position(rest[1])
-            if commits == kill_behind:
+            if commits == kill_after:
                 follower.kill()
     follower.wait()
     return at

@@ -121,7 +121,7 @@ def lines_of_json_tell_what_a_script_did(pubd, subcat):
     note = {"action": "M", "transactional": False, "lsn": shown(ends[-1]), "prefix": "it's", "content": 'a \\ "note" ä'}
     changes = sum(len(told) for transaction in transactions for _, told in transaction)
     last = {"summary": {"transactions": 3, "changes": changes, "lsn": shown(ends[-1] + 1)}}
-    return wrong + [f"behind them it tells {lines}"] * (lines != [note, last])
+    return wrong + [f"after them it tells {lines}"] * (lines != [note, last])
 
 
 def wrong_transaction(told, due, xid, time, end):
@@ -262,7 +262,7 @@ def wholes_of(printed):
 
 
 def cuts_and_kills_lose_and_repeat_no_line_of_json(pubd, subcat):
-    """As with lines of text: each transaction is in the file once and whole, and one last line behind all of them."""
+    """As with lines of text: each transaction is in the file once and whole, and one last line after all of them."""
     due = dumped(*inserted(TRANSACTIONS // 2))
     wrong = over_cuts_and_kills(pubd, subcat, inserts(TRANSACTIONS // 2), due, 150, KILLS // 2, 2 * STRIDE // 3, "--json", wholes=wholes_of)
     due = dumped(*messages_told(100))

@@ -84,7 +84,7 @@ def a_stream_whose_chunks_run_short_is_told_of(pubd, subcat):
 
 
 def a_log_that_is_nearly_full_is_told_of(pubd, subcat):
-    """Once, by the commit whose record is the first behind nine tenths of the places; then it is full, and a change is refused."""
+    """Once, by the commit whose record is the first after nine tenths of the places; then it is full, and a change is refused."""
     wrong = []
     for places, first in ((20, 9), (21, 10), (2, 1)):
         with tempfile.TemporaryDirectory() as folder, tempfile.TemporaryFile("w+") as errors:

@@ -124,7 +124,7 @@ def pauses_grow_and_begin_again(pubd, subcat):
         other.create("t")
         other.start("t")
         printed = follower.communicate(timeout=60)[0]
-        wrong += ["behind an active slot it prints something else"] * (printed != printed_of_inserts(2))
+        wrong += ["after an active slot it prints something else"] * (printed != printed_of_inserts(2))
         server.process.kill()
     return wrong
 
@@ -163,7 +163,7 @@ def committed(start, end):
 
 
 def a_transaction_that_ends_where_it_starts_ends_it(pubd, subcat):
-    """A broken server sends one behind a whole one, twice. It would be printed each time."""
+    """A broken server sends one after a whole one, twice. It would be printed each time."""
     with socket.create_server(("127.0.0.1", 0)) as listener:
         words = [word for word in words_of(subcat, listener.getsockname()[1]) if word != "--create"]
         follower = subprocess.Popen(words, stdout=subprocess.PIPE, stderr=subprocess.PIPE, text=True)

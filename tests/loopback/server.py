@@ -43,7 +43,7 @@ def printed_of_inserts(count):
 
 
 def messages(count):
-    """The lines of so many transactions of one insert and one message, each with a note behind it."""
+    """The lines of so many transactions of one insert and one message, each with a note after it."""
     for k in range(1, count + 1):
         yield from ("begin T", f"insert T public.item ({k},'ab',7)", f"message T 'p' '{k:03}'", f"commit T {k}", f"note 'q' '{k:03}'")
 

@@ -27,7 +27,7 @@ def values(text):
 
 
 def what_runs_is_told(pubd, subcat):
-    """Before there is a slot, while a stream runs that has confirmed one transaction of two, and behind its end."""
+    """Before there is a slot, while a stream runs that has confirmed one transaction of two, and after its end."""
     with Publisher(pubd, CONFIGURATION, options=("--status", "127.0.0.1:0")) as publisher:
         kind, text = page(publisher.status_port)
         wrong = [f"the page is {kind}"] * (kind != "text/plain; version=0.0.4")
@@ -44,7 +44,7 @@ def what_runs_is_told(pubd, subcat):
         wrong += ["no bytes are told of"] * (not running.get('pubd_slot_sent_bytes_total{slot="s"}'))
         wrong += ["a status has no age"] * ('pubd_slot_status_age_seconds{slot="s"}' not in running)
         client.close()
-        wrong += behind_its_end(publisher, ends)
+        wrong += after_its_end(publisher, ends)
         return wrong + refusals(publisher.status_port) + [f"it ends with {ended}" for ended in [publisher.end()] if ended]
 
 
@@ -55,7 +55,7 @@ def told_of(ends, active, connections):
     return due | {"pubd_connections": connections, "pubd_streams_begun_total": 1, "pubd_log_end_position": ends[1], "pubd_log_records": 4, "pubd_log_records_free": CAPACITY - 4}
 
 
-def behind_its_end(publisher, ends):
+def after_its_end(publisher, ends):
     """A server takes a moment to see that a connection was closed."""
     for _ in range(1000):
         told = values(page(publisher.status_port)[1])

@@ -57,7 +57,7 @@ def a_stream_is_held_and_let_go(pubd, subcat):
         ends = [insert(publisher, 1)]
         came = client.commits(1)
         kind, body = client.frame()
-        wrong = ["behind a transaction comes no keepalive"] * ((kind, body[:1]) != (b"d", b"k"))
+        wrong = ["after a transaction comes no keepalive"] * ((kind, body[:1]) != (b"d", b"k"))
         publisher.say("hold s")
         ends += [insert(publisher, key) for key in (2, 3)]
         client.socket.sendall(status(ends[0], asks=True))
@@ -76,7 +76,7 @@ def a_stream_is_held_and_let_go(pubd, subcat):
         return wrong + [f"transactions end at {came}, and not at {due}"] * (came != due)
 
 
-def a_connection_is_cut_behind_a_byte(pubd, subcat):
+def a_connection_is_cut_after_a_byte(pubd, subcat):
     """After each number of bytes as many come and no more, whatever frame they end in; the stream after that has all again."""
     with Publisher(pubd, CONFIGURATION) as publisher:
         client = stream_of(publisher, "s")
@@ -88,9 +88,9 @@ def a_connection_is_cut_behind_a_byte(pubd, subcat):
         for count in (*range(TRANSACTION), TRANSACTION):
             publisher.say(f"cut s {count}")
             client = stream_of(publisher, "s", is_new=False)
-            wrong += wrong_bytes(f"behind {count} bytes", all_that_comes(client), whole[:count])
+            wrong += wrong_bytes(f"after {count} bytes", all_that_comes(client), whole[:count])
         client = stream_of(publisher, "s", is_new=False)
-        wrong += wrong_bytes("behind no byte", client.bytes.read(TRANSACTION), whole)
+        wrong += wrong_bytes("after no byte", client.bytes.read(TRANSACTION), whole)
         client.close()
         return wrong
 
@@ -149,7 +149,7 @@ def a_server_ends_in_order(pubd, subcat):
             while kind == b"d":
                 kind, body = client.frame()
             wrong += [f"a stream ends with {kind}"] * (kind != b"c")
-            wrong += ["more comes behind CopyDone"] * (all_that_comes(client) != b"")
+            wrong += ["more comes after CopyDone"] * (all_that_comes(client) != b"")
         for client in (idle, silent):
             wrong += ["who has no stream isn't closed"] * (all_that_comes(client) != b"")
         try:
@@ -172,4 +172,4 @@ def a_script_steers_too(pubd, subcat):
         rest = all_that_comes(client)
         script = server.script
         due = [f"{script} 4 L1 there is no such slot", f"{script} 5 ok", f"{script} 6 ok"]
-        return [f"behind the transaction comes {rest.hex()}"] * (rest[:1] not in (b"", b"d")) + server.end(due)
+        return [f"after the transaction comes {rest.hex()}"] * (rest[:1] not in (b"", b"d")) + server.end(due)

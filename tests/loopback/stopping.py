@@ -89,7 +89,7 @@ def who_reads_nothing_any_more_is_let_go(pubd, subcat):
         wrong = []
         for at, way in enumerate(WAYS):
             again = Connection(publisher.port)
-            wrong += [f"behind {way} a slot isn't free {LATEST} s later"] * (not is_free(again, f"s{at}"))
+            wrong += [f"after {way} a slot isn't free {LATEST} s later"] * (not is_free(again, f"s{at}"))
             again.close()
         for client in clients:
             client.close()

@@ -1,6 +1,6 @@
 /* Refuses memory to the program that it is loaded into: once, the allocation whose number the variable REFUSE has, counted
    from 1, and all from that on whose number the variable REFUSE_FROM has. The variable REFUSE_TELLS has the number of a descriptor, to which the count of all allocations goes in the end.
-   Once, and behind that no more, it has no file put on the disk: the time whose number the variable REFUSE_SYNC has. */
+   Once, and after that no more, it has no file put on the disk: the time whose number the variable REFUSE_SYNC has. */
 #define _GNU_SOURCE
 #include <errno.h>
 #include <limits.h>

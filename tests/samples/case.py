@@ -30,7 +30,7 @@ def refused(answer):
 
 
 def values(answer, note=""):
-    """The values that were answered, with nothing but this note behind them."""
+    """The values that were answered, with nothing but this note after them."""
     if not answer.startswith("="):
         raise Wrong(answer.strip())
     found, noted = debugged.read(answer[1:])

@@ -67,12 +67,12 @@ def outcome(answer):
     """What came of a conversation: its phase, what the desk was asked, and what was said."""
     *answers, phase, asked, bytes_said = values(answer)
     before = "Startup"
-    for came, behind in zip(answers[::2], answers[1::2], strict=True):
-        if came.word == "Ok" and came.inside[0] != behind:
+    for came, after in zip(answers[::2], answers[1::2], strict=True):
+        if came.word == "Ok" and came.inside[0] != after:
             raise Wrong("answers another phase")
         if came.word == "Err" and (came.inside[0].word != "Closed" or before != "Closed"):
             raise Wrong(f"answers {came.inside[0].word}")
-        before = behind.word
+        before = after.word
     return "\n".join([phase.word, *map(asked_of, asked), bytes(bytes_said).hex()])
 
 
@@ -93,7 +93,7 @@ def cases(lines):
 
 
 def add_line(events, told, bytes_said, line):
-    """A line before the phase is the client's, one behind it is the server's. Bytes that follow one another come at once."""
+    """A line before the phase is the client's, one after it is the server's. Bytes that follow one another come at once."""
     if line.startswith((ENDS, ASKED)):
         told.append(line.removeprefix(ENDS).removeprefix(ASKED))
     elif told:

@@ -91,7 +91,7 @@ class Reader:
 
 
 def read(text):
-    """The values of a text, one behind the other, and what stands behind a question mark."""
+    """The values of a text, one after the other, and what stands after a question mark."""
     reader, values = Reader(text), []
     while reader.peek() not in ("", "?"):
         values.append(reader.value())

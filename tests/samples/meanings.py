@@ -170,7 +170,7 @@ def event(it):
 
 
 def asked(step):
-    """What a line asks behind the name of its transaction or connection."""
+    """What a line asks after the name of its transaction or connection."""
     match step.word:
         case "Insert" | "Delete":
             return step.inside[0], literals(step.inside[1])

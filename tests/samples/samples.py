@@ -35,13 +35,13 @@ def unquoted(text):
     return text[1:-1]
 
 
-# Each call that takes bytes: the lines for the sample's own and those behind them, and what comes of the answers.
+# Each call that takes bytes: the lines for the sample's own and those after them, and what comes of the answers.
 
 
 def framed(call, meaning):
     """A frame, and how many bytes it has."""
 
-    def asked(own, behind):
+    def asked(own, after):
         def meaning_of(found):
             if found is None:
                 return "waits"
@@ -49,20 +49,20 @@ def framed(call, meaning):
                 raise Wrong(f"takes {found[1]} bytes")
             return meaning(found[0])
 
-        return [line_of(call, (own + behind).hex())], lambda answer: meant(answer, meaning_of)
+        return [line_of(call, (own + after).hex())], lambda answer: meant(answer, meaning_of)
 
     return asked
 
 
 def whole(call, meaning):
     """What is read of all bytes."""
-    return lambda own, behind: ([line_of(call, (own + behind).hex())], lambda answer: meant(answer, meaning))
+    return lambda own, after: ([line_of(call, (own + after).hex())], lambda answer: meant(answer, meaning))
 
 
 def copy_body(call, meaning, asking):
     """A body of these kinds that asks by neither 0 nor 1 is written again as one that doesn't ask."""
 
-    def asked(own, behind):
+    def asked(own, after):
         note = ""
         if own[:1] in asking and own[-1] > 1:
             note = f"written {[*own[:-1], 0]}"
@@ -72,20 +72,20 @@ def copy_body(call, meaning, asking):
 
 
 def field(call, meaning):
-    """A field, and what is left behind it: of one that isn't there whole, everything."""
+    """A field, and what is left after it: of one that isn't there whole, everything."""
 
-    def asked(own, behind):
+    def asked(own, after):
         def meaning_of(found, rest):
-            if bytes(rest) != (own + behind if found is None else behind):
+            if bytes(rest) != (own + after if found is None else after):
                 raise Wrong(f"leaves {bytes(rest).hex()}")
             return "none" if found is None else meaning(found)
 
-        return [line_of(call, (own + behind).hex())], lambda answer: meant(answer, meaning_of)
+        return [line_of(call, (own + after).hex())], lambda answer: meant(answer, meaning_of)
 
     return asked
 
 
-def word(own, behind):
+def word(own, after):
     """A frame with a body, which may hold a message."""
 
     def came(frame, body, message):
@@ -105,7 +105,7 @@ def word(own, behind):
     return [line_of("read_back", own.hex()), line_of("read_server", own[5:].hex()), line_of("read_logical", own[30:].hex())], came
 
 
-def rendered(own, behind):
+def rendered(own, after):
     return [line_of("render", own.hex())], text_of
 
 
@@ -205,8 +205,8 @@ def read(file: pathlib.Path):
             own = bytes_of(above[1].partition("|")[0])
             asked = [BYTES[above[0]](own[:length], b"") for length in range(len(own))]
         else:
-            own, _, behind = given.partition("|")
-            asked = [BYTES[call](bytes_of(own), bytes_of(behind))]
+            own, _, after = given.partition("|")
+            asked = [BYTES[call](bytes_of(own), bytes_of(after))]
             above = call, given
         yield from one_case(number, asked, said)
 

@@ -20,7 +20,7 @@ def applied(pieces):
 
 
 def twice(pieces):
-    """The same, and with a late keepalive behind it."""
+    """The same, and with a late keepalive after it."""
     pieces = list(pieces)
     return [applied(pieces), applied([*pieces, LATE_KEEPALIVE])]
 
@@ -51,7 +51,7 @@ def settled(plain, probed):
     if " ! " not in plain.partition("\n")[0]:
         return plain
     if outcome(probed) != plain:
-        raise Wrong(f"changes behind its fault:\n{outcome(probed)}")
+        raise Wrong(f"changes after its fault:\n{outcome(probed)}")
     return plain
 
 
@@ -64,7 +64,7 @@ def alike(*answers, beginnings=0):
         raise Wrong(f"comes to something else in pieces:\n{pieces}\nand at once\n{whole}")
     for length, answer in enumerate(answers[4:end]):
         if outcome(answer) != whole:
-            raise Wrong(f"comes to something else where the connection is lost behind {length} bytes:\n{outcome(answer)}")
+            raise Wrong(f"comes to something else where the connection is lost after {length} bytes:\n{outcome(answer)}")
     for length, answer in enumerate(answers[end:]):
         if outcome(answer) != EMPTY:
             raise Wrong(f"comes to something by its first {length} bytes:\n{outcome(answer)}")
@@ -72,7 +72,7 @@ def alike(*answers, beginnings=0):
 
 
 def asked_of(connections, told):
-    """Of one connection without a fault also that it is lost behind any byte, and the stream is sent again; of one block that
+    """Of one connection without a fault also that it is lost after any byte, and the stream is sent again; of one block that
     nothing comes of any beginning of it, byte by byte."""
     ones = ([stream[at : at + 1] for at in range(len(stream))] for stream in connections)
     asked = twice(itertools.chain(*([".", stream] for stream in connections)))
@@ -103,7 +103,7 @@ def cases(lines):
 
 
 def add_line(connections, told, line):
-    """A line before the position is the server's, one behind it tells a transaction."""
+    """A line before the position is the server's, one after it tells a transaction."""
     if line.startswith(ENDS):
         told.append(line.removeprefix(ENDS))
     elif told:
