@@ -350,6 +350,24 @@ def a_transaction_that_is_too_large_ends_its_stream(pubd, subcat):
         return wrong + server.end(ended=[f"pubd: connection {number} {full}" for number in (1, 2)], waited=True)
 
 
+def the_memory_of_streams_is_told_in_bytes(pubd, subcat):
+    """By a word of the command line, in the place of the configuration's chunks: in twice as much a larger transaction is sent, in the
+    least its stream ends."""
+    rows, long = 2 * CHUNKS + 1, "n" * 7900
+    full = f"pubd: connection 1 closed: transactions in progress fill the chunks of its stream, and take {CHUNKS + 1}: set chunks in [server]"
+    wrong = []
+    for size, is_enough in ((f"{2 * CHUNKS * 16}kB", True), ("2MB", True), ("64", False)):
+        with Server(pubd, 1, inserts(rows, rows, long), awaited=1, more=["--logical-decoding-work-mem", size]) as server:
+            client = Connection(server.port)
+            client.create("s")
+            client.start("s")
+            came = len(list(client.messages(1))) if is_enough else client.refusal()
+            client.close()
+            wrong += [f"{size}: {came} came"] * (came != (rows + 3 if is_enough else "53400"))
+            wrong += server.end(ended=[] if is_enough else [full], waited=True)
+    return wrong
+
+
 def two_followers_print_what_a_script_commits(pubd, subcat):
     """100 transactions on a script's thread, followed from two slots, and a line after them that is refused."""
     count = 100
@@ -399,6 +417,7 @@ ALL = [
     a_broken_connection_leaves_the_others,
     a_slow_reader_holds_up_nobody,
     a_transaction_that_is_too_large_ends_its_stream,
+    the_memory_of_streams_is_told_in_bytes,
     a_transaction_that_is_too_large_is_passed_once_it_is_undone,
     a_stream_whose_chunks_run_short_is_told_of,
     a_log_that_is_nearly_full_is_told_of,

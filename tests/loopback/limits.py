@@ -359,6 +359,9 @@ def refused(ask, slot, code):
     return [f"{slot} isn't refused"]
 
 
+WORK_MEMORY = "SIZE of --logical-decoding-work-mem is a number, and kB, MB, GB or TB after it, from 64kB to 2147483647kB"
+
+
 def a_word_that_is_none_is_told(pubd, subcat):
     """With status 2 and in one line, before anything is served or sent."""
     served = [CONFIGURATION, "127.0.0.1:0"]
@@ -367,6 +370,7 @@ def a_word_that_is_none_is_told(pubd, subcat):
         (pubd, [*served, "+5"], "pubd: CONNECTIONS is a number from 0 to 1000, or forever"),
         (pubd, ["--await-streams", "+1", *served, "0"], "pubd: N of --await-streams is a number from 0 to 4294967295"),
         (pubd, ["--max-connections", "0", *served, "0"], "pubd: N of --max-connections is a number from 1 to 4294967295"),
+        *((pubd, ["--logical-decoding-work-mem", size, *served, "0"], f"pubd: {WORK_MEMORY}") for size in ("63kB", "2048GBs", "3TB", "")),
         (pubd, ["--authentication-timeout", "1y", *served, "0"], "pubd: TIME of --authentication-timeout is a number, and ms, s, min, h or d behind it, as in 60s"),
         (pubd, ["--wal-sender-timeout", "+1s", *served, "0"], "pubd: TIME of --wal-sender-timeout is a number, and ms, s, min, h or d behind it, as in 60s"),
         (pubd, ["--status", "9187", *served, "0"], "pubd: ADDR of --status is an address and a port, as in 127.0.0.1:9187"),

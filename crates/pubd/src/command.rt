@@ -8,7 +8,7 @@ use command_line::{CommandLine, Word, WordForm, WordsFault};
 use std::alloc::{AllocError, Global};
 
 /// The words: those that may be left out, those that have to be there, and scripts.
-const WORDS: [Word<'static>; 13] = [
+const WORDS: [Word<'static>; 14] = [
     Word {
         name: "await-streams",
         form: WordForm::Option("N"),
@@ -28,6 +28,11 @@ const WORDS: [Word<'static>; 13] = [
         name: "max-connections",
         form: WordForm::Option("N"),
         help: "Serve so many connections at once, and refuse more: 100 unless it is given",
+    },
+    Word {
+        name: "logical-decoding-work-mem",
+        form: WordForm::Option("SIZE"),
+        help: "Let the transactions in progress take so much memory in each stream, as in 64MB, in the place of the configuration's chunks",
     },
     Word {
         name: "log-min-messages",
@@ -111,6 +116,7 @@ fn words_in<'a>(alloc: Global, matches: &ArgMatches<'a>) -> Result<Words<'a>, Al
         silence: matches.get_str("wal-sender-timeout"),
         startup: matches.get_str("authentication-timeout"),
         at_once: matches.get_str("max-connections"),
+        work_memory: matches.get_str("logical-decoding-work-mem"),
         messages: matches.get_str("log-min-messages"),
         status: matches.get_str("status"),
         answers_postgresql: matches.get_flag("answer-postgresql"),

@@ -32,6 +32,7 @@ pub enum NumberFault {
     Silence,
     Startup,
     AtOnce,
+    WorkMemory,
     Level,
 }
 
@@ -50,6 +51,9 @@ impl NumberFault {
                 "TIME of --authentication-timeout is a number, and ms, s, min, h or d behind it, as in 60s"
             }
             NumberFault::AtOnce => "N of --max-connections is a number from 1 to 4294967295",
+            NumberFault::WorkMemory => {
+                "SIZE of --logical-decoding-work-mem is a number, and kB, MB, GB or TB after it, from 64kB to 2147483647kB"
+            }
             NumberFault::Level => "LEVEL of --log-min-messages is info, warning or error",
         }
     }

@@ -14,6 +14,7 @@ mod questions;
 mod reports;
 mod scripting;
 mod scripts;
+mod sizes;
 mod status_page;
 mod status_text;
 mod talk;
@@ -248,7 +249,7 @@ fn opened(rt: &HostRuntime, config: Config, numbers: &Numbers) -> Result<OpenedH
     let system = system_name(rt, alloc, server.systemid).map_err(Fault::System)?;
     let opened = OpenedHub::new(alloc, catalog, publications, system, server.records);
     let mut opened = opened.map_err(Fault::Hub)?;
-    opened.settings.chunks = server.chunks as u32;
+    opened.settings.chunks = numbers.chunks.unwrap_or(server.chunks as u32);
     limit(&mut opened.settings, numbers);
     Ok(opened)
 }

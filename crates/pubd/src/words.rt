@@ -2,6 +2,7 @@
 
 use crate::command_fault::{CommandFault, NumberFault};
 use crate::level::Level;
+use crate::sizes::chunks_of;
 use crate::times::timeout_of;
 use command_line::{address_of, count_of};
 use std::net::SocketAddr;
@@ -23,6 +24,7 @@ pub struct Words<'a> {
     pub(crate) silence: Option<&'a str>,
     pub(crate) startup: Option<&'a str>,
     pub(crate) at_once: Option<&'a str>,
+    pub(crate) work_memory: Option<&'a str>,
     pub(crate) messages: Option<&'a str>,
     pub(crate) status: Option<&'a str>,
     pub(crate) answers_postgresql: bool,
@@ -44,6 +46,8 @@ pub struct Numbers {
     pub wal_sender_timeout: Option<Duration>,
     pub authentication_timeout: Option<Duration>,
     pub max_connections: Option<u32>,
+    /// The chunks of each stream, where not the configuration tells them.
+    pub chunks: Option<u32>,
     pub answers_postgresql: bool,
     pub allows_start_ahead: bool,
     /// Whether the end of the standard input is that of the server, where lines come from there.
@@ -67,6 +71,7 @@ impl<'a> Words<'a> {
             wal_sender_timeout: self.wal_sender_timeout()?,
             authentication_timeout: self.authentication_timeout()?,
             max_connections: self.max_connections()?,
+            chunks: self.chunks()?,
             answers_postgresql: self.answers_postgresql,
             allows_start_ahead: self.allows_start_ahead,
             ends_with_input: self.connections == FOREVER && !self.keeps_serving,
@@ -131,6 +136,13 @@ impl<'a> Words<'a> {
         match count_of(text) {
             Some(count) if 1 <= count => Ok(Some(count)),
             _ => Err(NumberFault::AtOnce),
+        }
+    }
+
+    fn chunks(&self) -> Result<Option<u32>, NumberFault> {
+        match self.work_memory {
+            Some(text) => chunks_of(text).ok_or(NumberFault::WorkMemory).map(Some),
+            None => Ok(None),
         }
     }
 }
