@@ -191,52 +191,87 @@ static void ask(struct stream *stream, const char *query)
         fail("a query was refused");
 }
 
-/* Microseconds from the moment that lets the server commit until the subscriber has the Commit. */
-static double commit_once(struct stream *subscriber, struct stream *session, int pipe)
+/* Has a pubd do lines, which it is told through a pipe, and waits until it has answered each. */
+static void tell(int lines, const char *text)
 {
-    char line[8192];
+    size_t length = strlen(text);
+    if (write(lines, text, length) != (ssize_t)length)
+        fail("a line could not be told");
+}
+
+static void wait_for_lines(int answers, int count)
+{
+    char answer[4096];
+    while (count > 0) {
+        ssize_t length = read(answers, answer, sizeof answer);
+        if (length <= 0)
+            fail("the answers ended");
+        for (ssize_t i = 0; i < length; i++)
+            count -= answer[i] == '\n';
+    }
+}
+
+/* Who commits: a session of PostgreSQL, or the pipes of a pubd. */
+struct writer {
+    struct stream *session;
+    int lines, answers;
+};
+
+static void insert(struct writer *writer, int n)
+{
+    char text[200];
+    if (writer->session != NULL) {
+        snprintf(text, sizeof text, "BEGIN; INSERT INTO item VALUES (%d, 'n%06d', %d)", n, n, 10 * n);
+        ask(writer->session, text);
+    } else {
+        snprintf(text, sizeof text, "begin T\ninsert T public.item (%d,'n%06d',%d)\n", n, n, 10 * n);
+        tell(writer->lines, text);
+        wait_for_lines(writer->answers, 2);
+    }
+}
+
+/* Microseconds from the word that lets the server commit until the subscriber has the Commit. */
+static double commit_once(struct stream *subscriber, struct writer *writer)
+{
     long before = subscriber->commits;
     double begun = now();
-    if (session != NULL)
-        send_query(session, "COMMIT");
-    else if (read(pipe, line, sizeof line) <= 0)
-        fail("the pipe ended");
+    if (writer->session != NULL)
+        send_query(writer->session, "COMMIT");
+    else
+        tell(writer->lines, "commit T 0\n");
     while (subscriber->commits == before) {
         read_more(subscriber);
         take_frames(subscriber);
     }
     double ended = now();
-    if (session != NULL && wait_for_answer(session) != 'Z')
+    if (writer->session == NULL)
+        wait_for_lines(writer->answers, 1);
+    else if (wait_for_answer(writer->session) != 'Z')
         fail("a commit was refused");
     return (ended - begun) * 1e6;
 }
 
-static void time_commits(int count, const char *slot, const char *pipe)
+static void time_commits(int count, const char *slot, const char *lines, const char *answers)
 {
-    char insert[200];
+    struct writer writer = {strcmp(lines, "-") == 0 ? session() : NULL, atoi(lines), atoi(answers)};
     struct stream *stream = subscriber();
-    struct stream *writer = strcmp(pipe, "-") == 0 ? session() : NULL;
     start(stream, slot);
     for (int n = 1; n <= count; n++) {
-        snprintf(insert, sizeof insert, "BEGIN; INSERT INTO item VALUES (%d, 'n%06d', %d)", n, n, 10 * n);
-        if (writer != NULL)
-            ask(writer, insert);
-        else
-            sleep_for(200);
-        printf("%.1f\n", commit_once(stream, writer, atoi(pipe)));
+        insert(&writer, n);
+        printf("%.1f\n", commit_once(stream, &writer));
     }
 }
 
 int main(int count, char **words)
 {
     if (count < 6)
-        fail("readers streams PORT NAP COMMITS SLOT.. | readers commits PORT COUNT SLOT PIPE");
+        fail("readers streams PORT NAP COMMITS SLOT.. | readers commits PORT COUNT SLOT LINES ANSWERS");
     port = atoi(words[2]);
     nap = atol(words[3]);
     last_commit = atol(words[4]);
     if (strcmp(words[1], "streams") == 0)
         take_streams(count - 5, words + 5);
     else
-        time_commits(atoi(words[3]), words[4], words[5]);
+        time_commits(atoi(words[3]), words[4], words[5], words[count - 1]);
     return 0;
 }

@@ -38,7 +38,7 @@ class Readers:
         """The streams of these slots, side by side."""
         return Turn(self.run(["streams", port, nap, transactions, *slots]))
 
-    def time_commits(self, port, count, slot, pipe=None):
-        """Microseconds from commit to subscriber, of each commit."""
-        words = ["commits", port, count, slot, "-" if pipe is None else pipe]
-        return sorted(map(float, self.run(words, pass_fds=[] if pipe is None else [pipe])))
+    def time_commits(self, port, count, slot, pipes=()):
+        """Microseconds from commit to subscriber, of each commit; through these pipes a pubd is told its lines and answers."""
+        words = ["commits", port, count, slot, *(pipes or ["-"])]
+        return sorted(map(float, self.run(words, pass_fds=pipes)))

@@ -1,5 +1,4 @@
 """The servers, each with the table public.item, the publication p of it, and slots from which all is taken."""
-import fcntl
 import os
 import pathlib
 import shutil
@@ -147,10 +146,7 @@ class Floor(Listening):
 
 
 class Pubd(Listening):
-    """A pubd whose script begins with the streams that it awaits.
-
-    It tells each line that it refuses on its standard error, with the script's path. A page is all that the pipe there holds,
-    and the path is so long that a page holds one such line: at the second one the script waits until the first was read."""
+    """A pubd whose script begins with the streams that it awaits."""
 
     CONFIGURATION = """
 [server]
@@ -167,26 +163,16 @@ columns = [['id', 'int4'], ['name', 'text'], ['qty', 'int8']]
 name = 'p'
 tables = [{ name = 'public.item' }]
 """
-    REFUSED = "abort nobody"
-    PAGE = 4096
 
     def __init__(self, program, folder, connections, awaited, lines):
         folder = pathlib.Path(folder)
         (folder / "pubd.toml").write_text(self.CONFIGURATION)
-        script = pathlib.Path(*["directory" * 20] * 12, "script")
-        (folder / script).parent.mkdir(parents=True)
-        (folder / script).write_text("\n".join(lines) + "\n")
-        self.told, end = os.pipe()
-        fcntl.fcntl(end, fcntl.F_SETPIPE_SZ, self.PAGE)
+        (folder / "script").write_text("\n".join(lines) + "\n")
         limits = ["--wal-sender-timeout", "0", "--max-connections", "1000", "--log-min-messages", "error"]
-        words = [program, *limits, "--await-streams", str(awaited), "pubd.toml", "127.0.0.1:0", str(connections), str(script)]
-        process = subprocess.Popen(words, cwd=folder, stdout=subprocess.PIPE, stderr=end, text=True)
-        os.close(end)
-        self.listen(process, lambda: f"pubd does not listen: {os.read(self.told, self.PAGE)!r}")
-
-    def stop(self):
-        os.close(self.told)
-        super().stop()
+        words = [program, *limits, "--await-streams", str(awaited), "pubd.toml", "127.0.0.1:0", str(connections), "script"]
+        with open(folder / "said", "wb") as said:
+            process = subprocess.Popen(words, cwd=folder, stdout=subprocess.PIPE, stderr=said, text=True)
+        self.listen(process, lambda: f"pubd does not listen: {(folder / 'said').read_text()!r}")
 
 
 class Postgres:

@@ -12,7 +12,7 @@ class Told:
 
     def __init__(self, program, folder, connections, configuration=Pubd.CONFIGURATION, heaps=None):
         (pathlib.Path(folder) / "pubd.toml").write_text(configuration)
-        limits = ["--wal-sender-timeout", "0", "--log-min-messages", "error"]
+        limits = ["--wal-sender-timeout", "0", "--max-connections", "1000", "--log-min-messages", "error"]
         words = [program, *limits, "pubd.toml", "127.0.0.1:0", str(connections), "-"]
         shared = {"MALLOC_ARENA_MAX": str(heaps)} if heaps else {}
         pipes = {"stdin": subprocess.PIPE, "stdout": subprocess.PIPE, "text": True}
@@ -33,6 +33,11 @@ class Told:
         for first in range(0, len(numbers), 500):
             some = numbers[first : first + 500]
             self.tell(*(f"insert {transaction} public.item ({n},'n{n:06}',{10 * n})" for n in some))
+
+    def time_commits(self, readers, count, slot):
+        """Microseconds from a commit's line to its subscriber, of each of so many commits."""
+        pipes = self.process.stdin.fileno(), self.process.stdout.fileno()
+        return readers.time_commits(self.port, count, slot, pipes)
 
     def own_memory(self):
         """The bytes of memory that it has for itself: the pages of its code and of the C library's aren't counted."""
