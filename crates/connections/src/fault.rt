@@ -54,6 +54,8 @@ pub enum ConnectionEnd {
     TooFewChunks(u32),
     #[error("closed: the log lets no reader in")]
     NoEntry,
+    #[error("closed: the log's records for its stream have been removed")]
+    Removed,
     #[error("cut on purpose")]
     Cut,
     #[error("closed: the server ends")]
@@ -70,6 +72,7 @@ impl ConnectionEnd {
                 | ConnectionEnd::FullArena
                 | ConnectionEnd::TooFewChunks(_)
                 | ConnectionEnd::NoEntry
+                | ConnectionEnd::Removed
                 | ConnectionEnd::Cut
         )
     }

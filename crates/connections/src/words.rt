@@ -19,6 +19,8 @@ pub enum Trouble {
     FullArena,
     /// The log lets no reader in.
     NoEntry,
+    /// The log's records for the stream were given back.
+    Removed,
     /// No threads are to be had for one more connection.
     Crowd,
 }
@@ -31,6 +33,7 @@ impl Trouble {
         match self {
             Trouble::Memory => "53200",
             Trouble::FullArena | Trouble::NoEntry => "53400",
+            Trouble::Removed => "58P01",
             Trouble::Crowd => "53300",
         }
     }
@@ -43,6 +46,7 @@ impl Trouble {
             Trouble::Memory => "out of memory",
             Trouble::FullArena => "change arena is full",
             Trouble::NoEntry => "log cannot be entered",
+            Trouble::Removed => "requested WAL has already been removed",
             Trouble::Crowd => "sorry, too many clients already",
         }
     }
@@ -52,7 +56,7 @@ impl Trouble {
         ensures short { length result.now ≤ 40 }
     {
         match self {
-            Trouble::Memory | Trouble::FullArena | Trouble::NoEntry => "ERROR",
+            Trouble::Memory | Trouble::FullArena | Trouble::NoEntry | Trouble::Removed => "ERROR",
             Trouble::Crowd => "FATAL",
         }
     }

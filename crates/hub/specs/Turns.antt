@@ -75,12 +75,14 @@ end_of_fault (turns.Sender fault) = ends.Memory
 end_of_fault turns.Memory = ends.Memory
 end_of_fault turns.NoEntry = ends.NoEntry
 end_of_fault turns.Stale = ends.NoEntry
+end_of_fault turns.Removed = ends.Removed
 
 -- what its client is told of that, if it can still be
 abbrev pub trouble_of : ConnectionEnd → Option Trouble
 trouble_of ends.Memory = Some troubles.Memory
 trouble_of ends.FullArena = Some troubles.FullArena
 trouble_of ends.NoEntry = Some troubles.NoEntry
+trouble_of ends.Removed = Some troubles.Removed
 trouble_of end = None
 
 -- How a stream ended whose last turn ended so: by that turn's fault; in order, where its client asked for that, with the last work's words behind

@@ -156,6 +156,7 @@ fn end_of(fault: &TurnFault) -> ConnectionEnd
         TurnFault::Sender(SendFault::ArenaFull) => ConnectionEnd::FullArena,
         TurnFault::Memory | TurnFault::Sender(_) => ConnectionEnd::Memory,
         TurnFault::NoEntry | TurnFault::Stale => ConnectionEnd::NoEntry,
+        TurnFault::Removed => ConnectionEnd::Removed,
     }
 }
 
@@ -167,6 +168,7 @@ fn trouble_of(end: ConnectionEnd) -> Option<Trouble>
         ConnectionEnd::Memory => Some(Trouble::Memory),
         ConnectionEnd::FullArena => Some(Trouble::FullArena),
         ConnectionEnd::NoEntry => Some(Trouble::NoEntry),
+        ConnectionEnd::Removed => Some(Trouble::Removed),
         _ => None,
     }
 }

@@ -1,20 +1,19 @@
 -- What lies in a copy: its records with their restart places, and what is found there by a position.
-use Rattle.std.proofs.Common.{◌≡◌, ◌≢◌, ◌≤◌, ◌<◌, ◌-◌, ℕ, zero, suc, ◌==◌, Bool, true, false, cond, ◌&&◌, leb, List, [], ◌∷◌, ◌++◌, length, map, take, drop, get_or, refl, sym, ap, subst, ◌∙◌, append_assoc, arith}
+use Rattle.std.proofs.Common.{◌≡◌, ◌≤◌, ◌<◌, ℕ, zero, suc, ◌==◌, Bool, true, false, cond, ◌&&◌, leb, List, [], ◌∷◌, ◌++◌, length, map, take, drop, get_or, refl, sym, ap, subst, ◌∙◌, append_assoc, arith}
 use Rattle.std.specs.Prelude.{nat_lt}
 use Rattle.std.specs.List.{AllByRecursion, drop-map, take-map}
 use Rattle.std.specs.List.Sorted.{IsNonDecreasingBy}
 use Rattle.std.proofs.lemmas.Bool.{le-leb, lt-leb, ltb-true, ltb-false}
-use Rattle.std.proofs.lemmas.List.{append-nil, length-map, length-take, take-append-drop}
+use Rattle.std.proofs.lemmas.List.{append-nil, take-append-drop}
 use Rattle.wal.specs.declared.record.TheConstants.{FIRST_POSITION}
 use Rattle.wal.specs.declared.record.Record.{Record}
 use Rattle.wal.specs.Log.{IsSized, IsWellFormedLog, WellFormedAfter, end_of, follows}
-use Rattle.wal.specs.Restart.{is_in_progress, oldest, place_from}
+use Rattle.wal.specs.Restart.{oldest, place_from}
 use Rattle.wal.proofs.Lists.{map_twice}
-use Rattle.wal.proofs.Restarts.{within as within_log}
 use Rattle.wal.proofs.Laws.{follows-append, WellFormedAfter-front}
 use Rattle.std.proofs.lemmas.Bool.{eqb-true}
 use Rattle.shared_log.specs.declared.copy.Logged.{Logged}
-use Rattle.shared_log.specs.Kept.{kept_in, records_in, with_restarts, with_restarts_from}
+use Rattle.shared_log.specs.Kept.{kept_in, records_in, with_restarts_from}
 
 -- ---- Records and their restart places.
 
@@ -24,24 +23,13 @@ restarts-push before (q ∷ log) r =
     ap (λ l. (q, oldest (before ++ q ∷ [])) ∷ l)
     (restarts-push (before ++ q ∷ []) log r ∙ ap (λ l. with_restarts_from (before ++ q ∷ []) log ++ (r, oldest (l ++ r ∷ [])) ∷ []) (append_assoc before (q ∷ []) log))
 
-restarts-take : (n : ℕ) (before log : List Record) → take n (with_restarts_from before log) ≡ with_restarts_from before (take n log)
-restarts-take zero before log = refl
-restarts-take (suc n) before [] = refl
-restarts-take (suc n) before (r ∷ log) = ap (λ l. (r, oldest (before ++ r ∷ [])) ∷ l) (restarts-take n (before ++ r ∷ []) log)
-
-firsts : (before log : List Record) → map (λ p. p.0) (with_restarts_from before log) ≡ log
-firsts before [] = refl
-firsts before (r ∷ log) = ap (λ l. r ∷ l) (firsts (before ++ r ∷ []) log)
-
--- the records of a copy that keeps a log
-pub records_of : (items : List Logged) (log : List Record) → kept_in items ≡ with_restarts log → records_in items ≡ log
-records_of items log is = sym (map_twice (λ (p : Record × ℕ). p.0) (λ (l : Logged). (l.entry.value, l.restart)) items) ∙ ap (map (λ p. p.0)) is ∙ firsts [] log
-
--- the first ones of a copy
-pub kept_front : (n : ℕ) (items : List Logged) → kept_in items ≡ with_restarts (records_in items) → kept_in (take n items) ≡ with_restarts (records_in (take n items))
-kept_front n items is =
-    sym (take-map (λ (l : Logged). (l.entry.value, l.restart)) n items) ∙ ap (take n) is ∙ restarts-take n [] (records_in items)
-    ∙ ap with_restarts (take-map (λ (l : Logged). l.entry.value) n items)
+-- the records of a copy that keeps those behind others
+pub records_of : (items : List Logged) (before log : List Record) → kept_in items ≡ with_restarts_from before log → records_in items ≡ log
+records_of items before log is = sym (map_twice (λ (p : Record × ℕ). p.0) (λ (l : Logged). (l.entry.value, l.restart)) items) ∙ ap (map (λ p. p.0)) is ∙ firsts before log
+  where
+    firsts : (before log : List Record) → map (λ p. p.0) (with_restarts_from before log) ≡ log
+    firsts before [] = refl
+    firsts before (r ∷ log) = ap (λ l. r ∷ l) (firsts (before ++ r ∷ []) log)
 
 pub records_part : (items : List Logged) (place max : ℕ) → records_in (take max (drop place items)) ≡ take max (drop place (records_in items))
 records_part items place max = sym (take-map (λ (l : Logged). l.entry.value) max (drop place items)) ∙ ap (take max) (sym (drop-map (λ (l : Logged). l.entry.value) place items))
@@ -50,11 +38,11 @@ left : (b c : Bool) → (b && c) ≡ true → b ≡ true
 left true c e = refl
 left false c e = cc
 
-all_front : {A : Type 0} (P : A → Type 0) (xs ys : List A) → AllByRecursion P (xs ++ ys) → AllByRecursion P xs
+pub all_front : {A : Type 0} (P : A → Type 0) (xs ys : List A) → AllByRecursion P (xs ++ ys) → AllByRecursion P xs
 all_front P [] ys all = tt
 all_front P (x ∷ xs) ys all = (all.0, all_front P xs ys all.1)
 
-follows-front : (at : ℕ) (m n : List Record) → follows at (m ++ n) ≡ true → follows at m ≡ true
+pub follows-front : (at : ℕ) (m n : List Record) → follows at (m ++ n) ≡ true → follows at m ≡ true
 follows-front at m n e = left (follows at m) (follows (end_of at m) n) (sym (follows-append at m n) ∙ e)
 
 -- the first records of a log are one
@@ -88,7 +76,7 @@ end_at (l ∷ items) at (suc k) d lt = end_at items l.entry.value.end k d (omega
 
 -- ---- Positions rise.
 
-starts_at : (r : Record) (at : ℕ) (rs : List Record) → follows at (r ∷ rs) ≡ true → (r.start ≡ at) × (follows r.end rs ≡ true)
+pub starts_at : (r : Record) (at : ℕ) (rs : List Record) → follows at (r ∷ rs) ≡ true → (r.start ≡ at) × (follows r.end rs ≡ true)
 starts_at r at rs e = by_test (r.start == at) (λ is. eqb-true r.start at is) e
   where
     by_test : (b : Bool) → (b ≡ true → r.start ≡ at) → cond b (follows r.end rs) false ≡ true → (r.start ≡ at) × (follows r.end rs ≡ true)
@@ -124,33 +112,3 @@ place_at (l ∷ items) s zero le early late =
 place_at (l ∷ items) s (suc i) le early late =
     let here : leb s l.entry.value.start ≡ false = lt-leb s l.entry.value.start (ltb-true l.entry.value.start s (early 0 l (omega arith))) in
     rw here (ap suc (place_at items s i (omega (arith, le)) (λ k d lt. early (suc k) d (omega (arith, lt))) (λ k d from lt. late (suc k) d (omega (arith, from)) (omega (arith, lt)))))
-
--- ---- What is read at a place.
-
-pub restart_before : (items : List Logged) (place : ℕ) (d : Logged) → kept_in items ≡ with_restarts (records_in items) → place ≢ 0 → place ≤ length items → (get_or items (place - 1) d).restart ≡ oldest (take place (records_in items))
-restart_before items place d is some within =
-    let at : suc (place - 1) ≡ place = omega (arith, some) in
-    restart_at items [] (place - 1) d is (omega (arith, some, within)) ∙ ap (λ (n : ℕ). oldest (take n (records_in items))) at
-
-pub end_before : (items : List Logged) (place : ℕ) (d : Logged) → place ≢ 0 → place ≤ length items → (get_or items (place - 1) d).entry.value.end ≡ end_of FIRST_POSITION (take place (records_in items))
-end_before items place d some within =
-    let at : suc (place - 1) ≡ place = omega (arith, some) in
-    end_at items FIRST_POSITION (place - 1) d (omega (arith, some, within)) ∙ ap (λ (n : ℕ). end_of FIRST_POSITION (take n (records_in items))) at
-
-pub oldest_within : (items : List Logged) (place : ℕ) → place ≤ length items → oldest (take place (records_in items)) ≤ length items
-oldest_within items place within = omega (arith, within_log (is_in_progress (take place (records_in items))) (take place (records_in items)), length-take place (records_in items), length-map items (λ (l : Logged). l.entry.value), within)
-
--- what a reader looks at of a copy
-pub record IsFront (log : List Record) (limit : ℕ) (part : List Logged) : Type 0 where
-  pub kept : kept_in part ≡ with_restarts (records_in part)
-  pub good : IsWellFormedLog (records_in part)
-  pub records : records_in part ≡ take limit log
-
-pub front_of : (items part : List Logged) (limit : ℕ) → part ≡ take limit items → kept_in items ≡ with_restarts (records_in items) → IsWellFormedLog (records_in items) → IsFront (records_in items) limit part
-front_of items part limit is kept good =
-    let records : records_in part ≡ take limit (records_in items) = ap records_in is ∙ sym (take-map (λ (l : Logged). l.entry.value) limit items) in
-    record {
-      kept = subst (λ (l : List Logged). kept_in l ≡ with_restarts (records_in l)) (sym is) (kept_front limit items kept);
-      good = subst IsWellFormedLog (sym records) (front-well_formed limit (records_in items) good);
-      records = records;
-    }

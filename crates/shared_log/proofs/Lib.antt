@@ -1,8 +1,9 @@
 pub mod Prefixes
 pub mod Adding
 pub mod Fronts
-pub mod Copies
 pub mod Kept
+pub mod Lying
 pub mod Progress
+pub mod Reading
 pub mod Steps
 pub mod Writing

@@ -236,7 +236,7 @@ found-place at test (r ∷ log) = by_test (test r) (found-place (suc at) test lo
     by_test true rest = omega arith
     by_test false rest = ap (λ (n : ℕ). place_or n (found_from (suc at) test log)) (omega arith) ∙ rest ∙ omega arith
 
-oldest_of : (log : List Record) (os : List Opening) → AreOpenings log os → oldest log ≡ place_or (length log) (place_where (λ x. true) os)
+pub oldest_of : (log : List Record) (os : List Opening) → AreOpenings log os → oldest log ≡ place_or (length log) (place_where (λ x. true) os)
 oldest_of log os are =
     let all : found_from 0 (is_in_progress log) log ≡ place_where (λ x. true) os =
     found-agrees 0 (is_in_progress log) (some_of log (λ x. true)) log (each (λ (r : Record). is_in_progress log r ≡ some_of log (λ x. true) r) (λ (r : Record). and_true (is_in_progress log r)) log) ∙ are (λ x. true) in

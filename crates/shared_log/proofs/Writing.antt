@@ -1,8 +1,7 @@
 -- What a writer's steps make of how it stands.
-use Rattle.std.proofs.Common.{◌≡◌, ℕ, suc, ◌+◌, ◌<◌, ◌≤◌, List, [], ◌∷◌, ◌++◌, length, Option, Some, None, take, fold, refl, ap, sym, subst, ◌∙◌, arith, length-append}
+use Rattle.std.proofs.Common.{◌≡◌, ℕ, ◌+◌, ◌<◌, ◌≤◌, List, [], ◌∷◌, ◌++◌, length, Option, Some, None, fold, refl, ap, sym, subst, ◌∙◌, arith, length-append}
 use Rattle.std.specs.Prelude.{Result, Ok, Err, MatchResult, vec_capacity, vec_len, slice_set}
 use Rattle.std.specs.Arc.{arc_value}
-use Rattle.std.specs.List.{AllByRecursion}
 use Rattle.std.proofs.lemmas.List.{append-nil}
 use mathlib.Core.Option.{some}
 use lib.ListN.{get_elem?}
@@ -23,12 +22,12 @@ use Rattle.shared_log.specs.declared.openings.Openings.{Openings as Noted}
 use Rattle.shared_log.specs.declared.outline.Outline.{Outline}
 use Rattle.shared_log.specs.declared.rule.View.{View}
 use Rattle.shared_log.specs.Fronts.{one_of, settled_from, settled_records, open_from, shown_records, ends_confirmed}
-use Rattle.shared_log.specs.Kept.{kept_in, records_in, with_restarts, with_restarts_from}
+use Rattle.shared_log.specs.declared.edge.Edge.{Edge}
+use Rattle.shared_log.specs.Kept.{LiesFrom, edge_entered, kept_entered, kept_in}
 use Rattle.shared_log.specs.Openings.{AreOpenings, openings_after, restart_after}
 use Rattle.shared_log.specs.Sharing.{Keeps, Saw}
-use Rattle.shared_log.specs.Writing.{IsOffered, IsOutline, IsPut, Shows, Stands}
-use Rattle.shared_log.proofs.Copies.{folded}
-use Rattle.shared_log.proofs.Kept.{records_of, restarts-push}
+use Rattle.shared_log.specs.Writing.{IsOffered, IsOutline, IsPut, Shows, Stands, Waits}
+use Rattle.shared_log.proofs.Lying.{LiesBelow, folded, lies_longer}
 use Rattle.shared_log.proofs.Progress.{oldest-next, openings-next}
 use Rattle.shared_log.proofs.Fronts.{open_behind, settled_offer, settled_confirm, ends_confirm}
 use Rattle.shared_log.proofs.Steps.{goes_on}
@@ -111,22 +110,42 @@ restart_is log r os old outline count restart fits counted same is are =
 
 -- ---- What readers see, and what waits.
 
-both : {A : Type 0} (P : A → Type 0) (xs ys : List A) → AllByRecursion P xs → AllByRecursion P ys → AllByRecursion P (xs ++ ys)
-both P [] ys first second = second
-both P (x ∷ xs) ys first second = (first.0, both P xs ys first.1 second)
+-- one more waits
+waits_push : (log : List Record) (first last : ℕ) (puts : List Put) (put : Put) → Waits log first last puts → put.place ≡ length log → last ≤ put.edge → Waits log first put.edge (puts ++ put ∷ [])
+waits_push log first last [] put waits at le = (at, omega (arith, waits, le), omega arith)
+waits_push log first last (p ∷ puts) put waits at le = (waits.0, waits.1, waits_push log p.edge last puts put waits.2 at le)
 
--- nothing new is seen, and more may wait
-pub shows_still : (log now : List Record) (old_kept kept : List (Record × ℕ)) (old_waiting waiting new : List Put) → Shows log old_kept old_waiting → now ≡ log → kept ≡ old_kept → waiting ≡ old_waiting ++ new
-    → AllByRecursion (λ put. put.place ≡ length log) new → Shows now kept waiting
-shows_still log now old_kept kept old_waiting waiting new shows now_is kept_is waiting_is all =
-    let whole : Shows log old_kept (old_waiting ++ new) = record { shown = shows.shown; waits = both (λ (put : Put). put.place ≡ length log) old_waiting new shows.waits all } in
-    rw (now_is, kept_is, waiting_is) whole
+waits_further : (log : List Record) (first last next : ℕ) (puts : List Put) → Waits log first last puts → last ≤ next → Waits log first next puts
+waits_further log first last next [] waits le = omega (arith, waits, le)
+waits_further log first last next (p ∷ puts) waits le = (waits.0, waits.1, waits_further log p.edge last next puts waits.2 le)
+
+-- nothing new is seen, and nothing more waits
+pub shows_still : (log now : List Record) (last next given : ℕ) (old new : LogCopy) (old_waiting waiting : List Put) → Shows log last given old.mark.seen.log old.edge (kept_in old.records.items) old_waiting → now ≡ log
+    → new ≡ old → waiting ≡ old_waiting → last ≤ next → next ≤ given → Shows now next given new.mark.seen.log new.edge (kept_in new.records.items) waiting
+shows_still log now last next given old new old_waiting waiting shows now_is new_is waiting_is le bounded =
+    let whole : Shows log next given old.mark.seen.log old.edge (kept_in old.records.items) old_waiting =
+    record { says = shows.says; shown = shows.shown; waits = waits_further log old.edge.place last next old_waiting shows.waits le; bounded = bounded; within = shows.within } in
+    rw (now_is, new_is, waiting_is) whole
+
+-- nothing new is seen, and one more waits
+pub shows_waiting : (log now : List Record) (last given : ℕ) (old new : LogCopy) (old_waiting waiting : List Put) (put : Put) → Shows log last given old.mark.seen.log old.edge (kept_in old.records.items) old_waiting → now ≡ log
+    → new ≡ old → waiting ≡ old_waiting ++ put ∷ [] → put.place ≡ length log → last ≤ put.edge → put.edge ≤ given → Shows now put.edge given new.mark.seen.log new.edge (kept_in new.records.items) waiting
+shows_waiting log now last given old new old_waiting waiting put shows now_is new_is waiting_is at le bounded =
+    let whole : Shows log put.edge given old.mark.seen.log old.edge (kept_in old.records.items) (old_waiting ++ put ∷ []) =
+    record { says = shows.says; shown = shows.shown; waits = waits_push log old.edge.place last old_waiting put shows.waits at le; bounded = bounded; within = shows.within } in
+    rw (now_is, new_is, waiting_is) whole
 
 -- all that waited is seen
-pub shows_all : (log now : List Record) (kept : List (Record × ℕ)) (waiting : List Put) → kept ≡ with_restarts log → now ≡ log → waiting ≡ [] → Shows now kept waiting
-shows_all log now kept waiting kept_is now_is none =
-    let whole : Shows log (with_restarts log) [] = record { shown = refl; waits = tt } in
-    rw (now_is, kept_is, none) whole
+pub shows_all : (log now : List Record) (next given : ℕ) (new : LogCopy) (waiting : List Put) → shown_records new.mark.seen.log ≡ log → LiesFrom log new.edge (kept_in new.records.items) → new.edge.place ≡ next → now ≡ log → waiting ≡ []
+    → next ≤ given → given ≤ length log → Shows now next given new.mark.seen.log new.edge (kept_in new.records.items) waiting
+shows_all log now next given new waiting says lies at now_is none bounded within =
+    let whole : Shows log next given new.mark.seen.log new.edge (kept_in new.records.items) [] = record { says = says; shown = lies; waits = omega (arith, at); bounded = bounded; within = within } in
+    rw (now_is, none) whole
+
+-- more may be given back
+pub shows_given : (log : List Record) (last given next : ℕ) (copy : LogCopy) (waiting : List Put) → Shows log last given copy.mark.seen.log copy.edge (kept_in copy.records.items) waiting → given ≤ next → next ≤ length log
+    → Shows log last next copy.mark.seen.log copy.edge (kept_in copy.records.items) waiting
+shows_given log last given next copy waiting shows le within = record { says = shows.says; shown = shows.shown; waits = shows.waits; bounded = omega (arith, shows.bounded, le); within = within }
 
 -- ---- What the writer's calls of its two copies say.
 
@@ -139,56 +158,59 @@ on_err P Q (Ok a) b is m = absurd cc
 on_err P Q (Err e) b is m = subst Q (cc is) m
 
 -- what is shown once the record is published
-pub published_is : (records log : List (Record × ℕ)) (s : Seen Entry ℕ Law) (pending waiting : List Put) (put : Put) → records ≡ log → pending ≡ waiting ++ put ∷ [] → AllByRecursion (λ p. p.place ≡ length log) waiting → put.place ≡ length log
-    → fold (λ (x : List (Record × ℕ) × Seen Entry ℕ Law) (p : Put). (take p.place x.0 ++ (arc_value p.entry, p.restart) ∷ [], p.mark.seen)) (records, s) pending ≡ (log ++ (arc_value put.entry, put.restart) ∷ [], put.mark.seen)
-published_is records log s pending waiting put records_is pending_is all at =
-    rw (pending_is, records_is ∙ sym (append-nil log)) (folded (λ (p : Put). p.place) (λ (p : Put). (arc_value p.entry, p.restart)) (λ (p : Put). p.mark.seen) log [] s waiting put all at)
+pub published_is : (log : List Record) (edge : Edge) (kept : List (Record × ℕ)) (s : Seen Entry ℕ Law) (last : ℕ) (pending waiting : List Put) (put : Put) → LiesFrom log edge kept → pending ≡ waiting ++ put ∷ [] → Waits log edge.place last waiting
+    → put.place ≡ length log → last ≤ put.edge → put.edge ≤ length log
+    → LiesBelow log put.edge (arc_value put.entry, put.restart) put.mark.seen
+    (fold (λ (x : Edge × List (Record × ℕ) × Seen Entry ℕ Law) (p : Put). (edge_entered p.place p.edge x.0 x.1, kept_entered p.place p.edge x.0 x.1 (arc_value p.entry, p.restart), p.mark.seen)) (edge, kept, s) pending)
+published_is log edge kept s last pending waiting put lies pending_is waits at le within =
+    let all = folded (λ (p : Put). (arc_value p.entry, p.restart)) (λ (p : Put). p.mark.seen) log edge kept [] s last waiting put lies waits at le within in
+    rw (pending_is) (rw (append-nil kept) at all)
 
 -- a copy that a record has entered
-pub record IsGrown (name : Book) (log : List Record) (r : Record) (history : List Entry) (copy : LogCopy) : Type 0 where
-  pub kept : kept_in copy.records.items ≡ with_restarts (log ++ r ∷ [])
+pub record IsGrown (name : Book) (log : List Record) (r : Record) (history : List Entry) (first : ℕ) (copy : LogCopy) : Type 0 where
+  pub lies : LiesFrom (log ++ r ∷ []) copy.edge (kept_in copy.records.items)
+  pub from : copy.edge.place ≡ first
   pub named : copy.mark.seen.book ≡ name
   pub says : copy.mark.seen.log ≡ history
 
-pub grown_is : (name : Book) (log : List Record) (r : Record) (history : List Entry) (put : Put) (copy : LogCopy) → IsPut name log r history put
-    → ◌≡◌ {A = List (Record × ℕ) × Seen Entry ℕ Law} (kept_in copy.records.items, copy.mark.seen) (with_restarts log ++ (arc_value put.entry, put.restart) ∷ [], put.mark.seen) → IsGrown name log r history copy
-grown_is name log r history put copy enters is =
-    let records : kept_in copy.records.items ≡ with_restarts log ++ (arc_value put.entry, put.restart) ∷ [] = ap (λ x. x.0) is in
-    let seen : copy.mark.seen ≡ put.mark.seen = ap (λ x. x.1) is in
+pub grown_is : (name : Book) (log : List Record) (r : Record) (history : List Entry) (put : Put) (copy : LogCopy) (state : Edge × List (Record × ℕ) × Seen Entry ℕ Law) → IsPut name log r history put
+    → ◌≡◌ {A = Edge × List (Record × ℕ) × Seen Entry ℕ Law} (copy.edge, kept_in copy.records.items, copy.mark.seen) state → LiesBelow log put.edge (arc_value put.entry, put.restart) put.mark.seen state → IsGrown name log r history put.edge copy
+grown_is name log r history put copy state enters is below =
+    let edge : copy.edge ≡ state.0 = ap (λ x. x.0) is in
+    let items : kept_in copy.records.items ≡ state.1 = ap (λ x. x.1) is in
+    let seen : copy.mark.seen ≡ put.mark.seen = ap (λ x. x.2) is ∙ below.sees in
+    let kept : kept_in copy.records.items ≡ below.kept ++ (r, oldest (log ++ r ∷ [])) ∷ [] =
+    items ∙ below.items ∙ ap (λ (a : Record). below.kept ++ (a, put.restart) ∷ []) enters.entry ∙ ap (λ (n : ℕ). below.kept ++ (r, n) ∷ []) enters.restart in
+    let longer = lies_longer log r state.0 below.kept below.lies.lies in
     record {
-      kept = records ∙ ap (λ (a : Record). with_restarts log ++ (a, put.restart) ∷ []) enters.entry ∙ ap (λ (n : ℕ). with_restarts log ++ (r, n) ∷ []) enters.restart ∙ sym (restarts-push [] log r);
+      lies = subst (λ (e : Edge). LiesFrom (log ++ r ∷ []) e (kept_in copy.records.items)) (sym edge) (subst (LiesFrom (log ++ r ∷ []) state.0) (sym kept) longer);
+      from = ap (λ (e : Edge). e.place) edge ∙ below.lies.place;
       named = ap (λ s. s.book) seen ∙ enters.named;
       says = ap (λ s. s.log) seen ∙ enters.says;
     }
 
+pub grown_by : (name : Book) (log : List Record) (r : Record) (history : List Entry) (put : Put) (old new : LogCopy) (last : ℕ) (pending waiting : List Put) → LiesFrom log old.edge (kept_in old.records.items) → Waits log old.edge.place last waiting
+    → last ≤ put.edge → put.edge ≤ length log → IsPut name log r history put → pending ≡ waiting ++ put ∷ []
+    → ◌≡◌ {A = Edge × List (Record × ℕ) × Seen Entry ℕ Law} (new.edge, kept_in new.records.items, new.mark.seen)
+    (fold (λ (x : Edge × List (Record × ℕ) × Seen Entry ℕ Law) (p : Put). (edge_entered p.place p.edge x.0 x.1, kept_entered p.place p.edge x.0 x.1 (arc_value p.entry, p.restart), p.mark.seen)) (old.edge, kept_in old.records.items, old.mark.seen) pending)
+    → IsGrown name log r history put.edge new
+grown_by name log r history put old new last pending waiting lies waits further within enters pending_is is =
+    let below = published_is log old.edge (kept_in old.records.items) old.mark.seen last pending waiting put lies pending_is waits enters.place further within in
+    grown_is name log r history put new _ enters is below
+
 -- the log that readers see goes on to that copy
-pub goes_to : (name : Book) (seat : ℕ) (v : View) (log : List Record) (r : Record) (history : List Entry) (old new : LogCopy) (views : List View) → kept_in old.records.items ≡ with_restarts log
-    → IsGrown name log r history new → IsWellFormedLog (log ++ r ∷ []) → shown_records history ≡ log ++ r ∷ []
-    → Keeps name (records_in old.records.items) (kept_in old.records.items) old.mark.seen.book old.mark.seen.log views → get_elem? views seat ≡ some v
-    → (w : View) × Keeps name (records_in new.records.items) (kept_in new.records.items) new.mark.seen.book new.mark.seen.log (slice_set views seat w)
-    × Saw name v (records_in new.records.items) (kept_in new.records.items) new.mark.seen.book new.mark.seen.log w
-goes_to name seat v log r history old new views before grown good shown keeps at =
-    let records : records_in new.records.items ≡ log ++ r ∷ [] = records_of new.records.items (log ++ r ∷ []) grown.kept in
-    let longer : records_in old.records.items ++ r ∷ [] ≡ records_in new.records.items = ap (λ (l : List Record). l ++ r ∷ []) (records_of old.records.items log before) ∙ sym records in
-    let says : records_in new.records.items ≡ shown_records new.mark.seen.log = records ∙ sym (ap shown_records grown.says ∙ shown) in
-    goes_on name seat v (records_in old.records.items) (records_in new.records.items) (kept_in old.records.items) (kept_in new.records.items) old.mark.seen.book new.mark.seen.book old.mark.seen.log new.mark.seen.log views keeps at
-    (r ∷ [], longer) (subst IsWellFormedLog (sym records) good) grown.named says (grown.kept ∙ ap with_restarts (sym records))
+pub goes_to : (name : Book) (seat : ℕ) (v : View) (log : List Record) (r : Record) (history : List Entry) (first : ℕ) (old new : LogCopy) (views : List View)
+    → IsGrown name log r history first new → old.edge.place ≤ first → IsWellFormedLog (log ++ r ∷ []) → shown_records history ≡ log ++ r ∷ []
+    → Keeps name (shown_records old.mark.seen.log) old.edge (kept_in old.records.items) old.mark.seen.book views → get_elem? views seat ≡ some v → shown_records old.mark.seen.log ≡ log
+    → (w : View) × Keeps name (shown_records new.mark.seen.log) new.edge (kept_in new.records.items) new.mark.seen.book (slice_set views seat w)
+    × Saw name v (shown_records new.mark.seen.log) new.edge (kept_in new.records.items) new.mark.seen.book w
+goes_to name seat v log r history first old new views grown further good shown keeps at same =
+    let is : shown_records new.mark.seen.log ≡ log ++ r ∷ [] = ap shown_records grown.says ∙ shown in
+    goes_on name seat v (shown_records old.mark.seen.log) (shown_records new.mark.seen.log) old.edge new.edge (kept_in old.records.items) (kept_in new.records.items) old.mark.seen.book new.mark.seen.book views keeps at
+    (r ∷ [], ap (λ (l : List Record). l ++ r ∷ []) same ∙ sym is) (omega (arith, further, grown.from)) (subst IsWellFormedLog (sym is) good) grown.named
+    (subst (λ (l : List Record). LiesFrom l new.edge (kept_in new.records.items)) (sym is) grown.lies)
 
 -- ---- Counts.
-
-length_from : (before log : List Record) → length log ≡ length (with_restarts_from before log)
-length_from before [] = refl
-length_from before (r ∷ log) = ap suc (length_from (before ++ r ∷ []) log)
-
-pub length_restarts : (log : List Record) → length log ≡ length (with_restarts log)
-length_restarts log = length_from [] log
-
-pub waits_at : (log : List Record) (puts : List Put) → AllByRecursion (λ put. put.place ≡ length log) puts → AllByRecursion (λ put. put.place ≡ length (with_restarts log)) puts
-waits_at log puts all = by_each puts all
-  where
-    by_each : (puts : List Put) → AllByRecursion (λ put. put.place ≡ length log) puts → AllByRecursion (λ put. put.place ≡ length (with_restarts log)) puts
-    by_each [] all = tt
-    by_each (p ∷ puts) all = (all.0 ∙ length_restarts log, by_each puts all.1)
 
 -- the history is no shorter than what it has settled
 settled_short : (log : List Record) (o : Option Record) (es : List Entry) → length (settled_from log o es) ≤ length log + length es

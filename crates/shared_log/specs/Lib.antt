@@ -3,6 +3,7 @@ pub mod Fronts
 pub mod Kept
 pub mod Openings
 pub mod Readers
+pub mod Removed
 pub mod Sharing
 pub mod Telling
 pub mod Writing

@@ -1,18 +1,19 @@
 -- How a writer stands between its calls, and what it makes of a record.
-use Rattle.std.specs.Prelude.{◌≡◌, ◌<◌, ◌^◌, ℕ, List, [], ◌∷◌, ◌++◌, length, None, Some, true, vec_capacity, vec_len}
+use Rattle.std.specs.Prelude.{◌≡◌, ◌<◌, ◌≤◌, ◌^◌, ℕ, List, [], ◌∷◌, ◌++◌, length, None, Some, true, vec_capacity, vec_len}
 use Rattle.std.specs.Arc.{arc_value}
-use Rattle.std.specs.List.{AllByRecursion}
 use Rattle.logbook.specs.Pages.{Book}
 use Rattle.wal.specs.declared.record.TheConstants.{FIRST_POSITION}
 use Rattle.wal.specs.declared.record.Record.{Record}
 use Rattle.wal.specs.Log.{IsWellFormedLog, end_of}
 use Rattle.wal.specs.Restart.{oldest}
 use Rattle.shared_log.specs.declared.entry.Entry.{Entry}
+use Rattle.shared_log.specs.declared.copy.LogCopy.{LogCopy}
 use Rattle.shared_log.specs.declared.copy.Put.{Put}
+use Rattle.shared_log.specs.declared.edge.Edge.{Edge}
 use Rattle.shared_log.specs.declared.openings.Openings.{Openings as Noted}
 use Rattle.shared_log.specs.declared.outline.Outline.{Outline}
-use Rattle.shared_log.specs.Fronts.{settled_records, open_from, ends_confirmed}
-use Rattle.shared_log.specs.Kept.{with_restarts}
+use Rattle.shared_log.specs.Fronts.{settled_records, shown_records, open_from, ends_confirmed}
+use Rattle.shared_log.specs.Kept.{LiesFrom, given_after}
 use Rattle.shared_log.specs.Openings.{AreOpenings, is_end, owner_of}
 use Rattle.shared_log.specs.Telling.{TellsOf}
 
@@ -26,10 +27,32 @@ pub record Stands (front sure : List Entry) (count end : ℕ) (noted : Noted) : 
   pub progress : AreOpenings (settled_records front) noted.items.items
   pub room : (r : Record) → open_from None front ≡ Some r → vec_len noted.items < vec_capacity noted.items
 
--- Readers see the log with its restart places, and each record that still waits for a copy enters at its end.
-pub record Shows (log : List Record) (kept : List (Record × ℕ)) (waiting : List Put) : Type 0 where
-  pub shown : kept ≡ with_restarts log
-  pub waits : AllByRecursion (λ put. put.place ≡ length log) waiting
+-- a log as its writer knows it: its records, and the place up to which they may be given back
+pub record Written : Type 0 where
+  pub records : List Record
+  pub given : ℕ
+
+-- some of its records may be given back
+abbrev pub after_giving : ℕ → Written → Written
+after_giving up_to w = record w { given = given_after up_to w.records w.given }
+
+-- a copy of an empty log
+abbrev pub IsEmptyCopy : LogCopy → Type 0
+IsEmptyCopy copy = (copy.records.items ≡ []) × (copy.edge ≡ record { place = 0; restart = 0; position = FIRST_POSITION })
+
+-- Each record that still waits for a copy enters at the end of the log, and copies begin where it says, ever further on.
+abbrev pub Waits : List Record → (first last : ℕ) → List Put → Type 0
+Waits log first last [] = first ≤ last
+Waits log first last (p ∷ ps) = (p.place ≡ length log) × (first ≤ p.edge) × Waits log p.edge last ps
+
+-- Readers see the log, of which the end lies in memory, and what still waits for a copy enters at its end. Copies begin no further on
+-- than records may be given back.
+pub record Shows (log : List Record) (last given : ℕ) (front : List Entry) (edge : Edge) (kept : List (Record × ℕ)) (waiting : List Put) : Type 0 where
+  pub says : shown_records front ≡ log
+  pub shown : LiesFrom log edge kept
+  pub waits : Waits log edge.place last waiting
+  pub bounded : last ≤ given
+  pub within : given ≤ length log
 
 -- what is known beside its body of a record that may stand at the end of a log
 pub record IsOutline (log : List Record) (r : Record) (outline : Outline) : Type 0 where

@@ -1,4 +1,4 @@
-//! Why a reader got no records: E1 and E2.
+//! Why a reader got no records: E1 to E3.
 
 use std::alloc::AllocError;
 use thiserror::Error;
@@ -16,6 +16,9 @@ pub enum ReadFault {
     /// The log was entered, and holds all that was learnt.
     #[error("E2: out of memory")]
     Memory,
+    /// The log was entered, and what was asked for stands before the records that lie in memory.
+    #[error("E3: the log's records there have been removed")]
+    Removed,
 }
 
 impl From<AllocError> for ReadFault {

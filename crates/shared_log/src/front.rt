@@ -49,10 +49,7 @@ impl<L: LogName> Front<L> {
     pub(crate) fn mark(&self) -> Mark
         ensures { (result.seen.log ≡ self.now) × (result.seen.book ≡ L.book) }
     {
-        Mark {
-            count: self.count,
-            seen: self.seen.again(),
-        }
+        Mark::of(self.count, &self.seen)
     }
 
     /// The longer of two fronts, which the other begins.

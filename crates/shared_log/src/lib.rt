@@ -2,9 +2,11 @@
 #![tactic(auto)]
 
 mod copy;
+mod edge;
 mod entry;
 mod fault;
 mod front;
+mod given;
 mod history;
 mod law;
 mod mark;
@@ -20,6 +22,7 @@ mod state;
 mod writer;
 
 pub use copy::{LogCopy, Logged, Put};
+pub use edge::Edge;
 pub use entry::Entry;
 pub use fault::ReadFault;
 pub use front::Front;

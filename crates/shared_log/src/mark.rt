@@ -1,6 +1,6 @@
 //! A beginning of a history, without the name of its log.
 
-ghost use Rattle.std.specs.Prelude.{◌≡◌, length};
+ghost use Rattle.std.specs.Prelude.{◌≡◌, ◌<◌, ◌^◌, length};
 
 use crate::entry::Entry;
 use crate::law::Law;
@@ -12,9 +12,21 @@ pub struct Mark {
     pub(crate) count: u64,
     pub(crate) seen: Seen<Entry, u64, Law>,
     ghost counted: { count ≡ length seen.log },
+    ghost short: { length seen.log < 2 ^ 64 },
 }
 
 impl Mark {
+    /// What was seen, and how long it is.
+    pub(crate) fn of(count: u64, seen: &Seen<Entry, u64, Law>) -> Self
+        requires { count ≡ length seen.now.log }
+        ensures { result.seen ≡ seen.now }
+    {
+        Mark {
+            count,
+            seen: seen.again(),
+        }
+    }
+
     pub(crate) fn again(&self) -> Self
         ensures { result.seen ≡ self.now.seen }
     {

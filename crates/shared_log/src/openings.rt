@@ -1,8 +1,8 @@
 //! The transactions in progress that have written.
 
-ghost use Rattle.std.specs.Prelude.{◌≡◌, ◌==◌, ◌<◌, ◌^◌, [], IfOk, None, OnOk, Some, filter, not, vec_capacity, vec_len};
+ghost use Rattle.std.specs.Prelude.{◌≡◌, ◌==◌, ◌<◌, ◌^◌, [], IfOk, None, OnOk, Some, filter, not, true, vec_capacity, vec_len};
 ghost use Rattle.std.specs.List.{list_any};
-ghost use Rattle.shared_log.specs.Openings.{openings_after, restart_after};
+ghost use Rattle.shared_log.specs.Openings.{openings_after, place_or, place_where, restart_after};
 
 use std::alloc::{AllocError, Global};
 
@@ -72,6 +72,16 @@ impl Openings {
         ensures { result ≡ list_any (λ o. o.xid == top) self.now.items.items }
     {
         self.items.iter().any(|opening| opening.xid == top)
+    }
+
+    /// The place of the oldest record of a transaction in progress, or the end of the log.
+    pub fn oldest(&self, end: usize) -> usize
+        ensures { result ≡ place_or end (place_where (λ x. true) self.now.items.items) }
+    {
+        match self.items.first() {
+            Some(opening) => opening.place,
+            None => end,
+        }
     }
 
     /// The place of the oldest record of a transaction that is in progress behind that record, or the place behind it.

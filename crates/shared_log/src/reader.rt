@@ -1,11 +1,12 @@
 //! A reader of the log.
 
-ghost use Rattle.std.specs.Prelude.{◌≡◌, ◌+◌, ◌≤◌, ◌++◌, [], List, true, IfErr, IfOk, OnErr, drop, length, take, vec_len};
+ghost use Rattle.std.specs.Prelude.{◌≡◌, ◌+◌, ◌<◌, ◌≤◌, ◌^◌, ◌++◌, [], Err, List, true, IfErr, IfOk, OnErr, OnOk, drop, length, take, vec_len};
 ghost use mathlib.Core.List.{IsPrefix};
 ghost use Rattle.wal.specs.Log.{IsWellFormedLog};
 ghost use Rattle.wal.specs.Records.{shared_records};
-ghost use Rattle.shared_log.specs.Fronts.{ends_confirmed, settled_records};
-ghost use Rattle.shared_log.specs.Kept.{records_in};
+ghost use Rattle.shared_log.specs.Fronts.{ends_confirmed, settled_records, shown_records};
+ghost use Rattle.shared_log.specs.Kept.{LiesFrom, kept_in, records_in};
+ghost use Rattle.shared_log.specs.Removed.{IsUnread};
 
 use crate::copy::{LogCopy, Logged};
 use crate::fault::ReadFault;
@@ -16,8 +17,9 @@ use crate::rule::{Published, Sees, View};
 use core::mem;
 use left_right::reader::Reader;
 use std::alloc::{AllocError, Global};
+use std::collections::VecDeque;
 use std::sync::Arc;
-use wal::{Record, part};
+use wal::Record;
 
 /// Reads the log from a place on. It takes no lock and waits for nobody.
 #[derive(Drop)]
@@ -31,10 +33,10 @@ pub struct LogReader<L: LogName> {
 }
 
 impl<L: LogName> LogReader<L> {
-    ghost use Rattle.shared_log.specs.Readers.{HasSeen, seen_of};
+    ghost use Rattle.shared_log.specs.Readers.{HasSeen, edge_of, seen_of};
 
     /// Up to `max` records from the reader's place on, and moves the place past them. E1 where the log lets no reader in, E2 for
-    /// memory.
+    /// memory, E3 where the place stands before the records that lie in memory, which begin ever further on.
     pub fn fetch(&mut self, alloc: Global, max: usize) -> Result<Vec<Arc<Record>>, ReadFault>
         ensures grows { IsPrefix (seen_of self.old) (seen_of self.new) }
         ensures told { self.new.told ≡ self.old.told }
@@ -46,6 +48,9 @@ impl<L: LogName> LogReader<L> {
             × IsWellFormedLog (seen_of self.new)) }
         ensures err { OnErr result (self.new.place ≡ self.old.place) }
         ensures why { IfErr result (λ fault. HasSeen fault self.old self.new) }
+        ensures edge { edge_of self.old ≤ edge_of self.new }
+        ensures from { OnOk result (edge_of self.new ≤ self.old.place) }
+        ensures removed { result ≡ Err ReadFault.Removed → self.old.place < edge_of self.new }
     {
         mem::replace_with(self, (alloc, max), |reader, about: (Global, usize)| {
             reader.fetched(about.0, about.1)
@@ -68,7 +73,7 @@ impl<L: LogName> LogReader<L> {
         self.place
     }
 
-    /// Goes to a place that it has seen already.
+    /// Goes to a place that it has seen already. Where its record was given back, the next fetch says so.
     pub fn seek(&mut self, place: usize)
         requires seen { place ≤ length (seen_of self.old) }
         ensures moved { self.new.place ≡ place }
@@ -88,6 +93,9 @@ impl<L: LogName> LogReader<L> {
             × IsWellFormedLog (seen_of result.0)) }
         ensures err { OnErr result.1 (result.0.place ≡ self.place) }
         ensures why { IfErr result.1 (λ fault. HasSeen fault self result.0) }
+        ensures edge { edge_of self ≤ edge_of result.0 }
+        ensures from { OnOk result.1 (edge_of result.0 ≤ self.place) }
+        ensures removed { result.1 ≡ Err ReadFault.Removed → self.place < edge_of result.0 }
     {
         let LogReader {
             reader,
@@ -106,7 +114,7 @@ impl<L: LogName> LogReader<L> {
             Ok(reading) => {
                 let copy = reading.get();
                 let is_there = told.is_in(&copy.mark);
-                let got = shares(alloc, part(copy.records.as_slice(), place, max));
+                let got = part_of(alloc, copy, place, max);
                 let reader = reading.leave();
                 let mut left = LogReader {
                     reader,
@@ -121,19 +129,53 @@ impl<L: LogName> LogReader<L> {
                         left.place += records.len();
                         return (left, Ok(records));
                     }
-                    Err(_) => return (left, Err(ReadFault::Memory)),
+                    Err(fault) => return (left, Err(fault)),
                 }
             }
         }
     }
 }
 
-/// Shares of the records.
-fn shares(alloc: Global, records: &[Logged]) -> Result<Vec<Arc<Record>>, AllocError>
-    ensures { IfOk result (λ v. shared_records v.items ≡ records_in records.now) }
+/// Up to `max` records from the place on, of those that lie in a copy.
+fn part_of(
+    alloc: Global,
+    copy: &LogCopy,
+    place: usize,
+    max: usize,
+) -> Result<Vec<Arc<Record>>, ReadFault>
+    requires lies { LiesFrom (shown_records copy.now.mark.seen.log) copy.now.edge
+        (kept_in copy.now.records.items) }
+    ensures gives { IfOk result
+        (λ v. shared_records v.items
+        ≡ take max (drop place (shown_records copy.now.mark.seen.log))) }
+    ensures from { OnOk result (copy.now.edge.place ≤ place) }
+    ensures fits { IfOk result (λ v. place + vec_len v < 2 ^ 64) }
+    ensures why { IfErr result (λ fault. IsUnread place copy.now.edge.place fault) }
 {
-    let mut copies = Vec::with_capacity(alloc, records.len())?;
-    for logged in records {
+    let skipped = match place.checked_sub(copy.edge.place) {
+        Some(skipped) => skipped,
+        None => return Err(ReadFault::Removed),
+    };
+    match shares(alloc, &copy.records, skipped, max) {
+        Ok(records) => Ok(records),
+        Err(_) => Err(ReadFault::Memory),
+    }
+}
+
+/// Shares of up to `max` records that stand behind the first `skipped`.
+fn shares(
+    alloc: Global,
+    records: &VecDeque<Logged>,
+    skipped: usize,
+    max: usize,
+) -> Result<Vec<Arc<Record>>, AllocError>
+    ensures { IfOk result
+        (λ v. shared_records v.items ≡ take max (drop skipped (records_in records.now.items))) }
+{
+    let from = skipped.min(records.len());
+    let count = max.min(records.len() - from);
+    let mut copies = Vec::with_capacity(alloc, count)?;
+    for logged in records.range(from..from + count) {
         copies.push(Arc::try_clone(&logged.entry)?)?;
     }
     Ok(copies)

@@ -1,27 +1,28 @@
 //! Where a reader begins that serves a stream from a position on.
 
-ghost use Rattle.std.specs.Prelude.{◌≡◌, ◌≢◌, ◌≤◌, Err, IfErr, IfOk, OnErr, OnOk, length, nat_lt, take};
+ghost use Rattle.std.specs.Prelude.{◌≡◌, ◌≢◌, ◌+◌, ◌≤◌, Err, IfErr, IfNone, IfOk, IfSome, OnErr, OnOk, length, nat_lt, take};
 ghost use mathlib.Core.List.{IsPrefix};
 ghost use Rattle.wal.specs.Log.{IsWellFormedLog, end_of};
 ghost use Rattle.wal.specs.Restart.{oldest, place_from, restart, restart_place};
 ghost use Rattle.wal.specs.declared.record.TheConstants.{FIRST_POSITION};
-ghost use Rattle.shared_log.specs.Fronts.{settled_records};
-ghost use Rattle.shared_log.specs.Kept.{kept_in, records_in, with_restarts};
+ghost use Rattle.shared_log.specs.Fronts.{settled_records, shown_records};
+ghost use Rattle.shared_log.specs.Kept.{LiesFrom, kept_in, records_in};
+ghost use Rattle.shared_log.specs.Removed.{NeedsRemoved};
 
-use crate::copy::Logged;
+use crate::copy::{LogCopy, Logged};
 use crate::fault::ReadFault;
 use crate::name::LogName;
 use crate::reader::LogReader;
 use crate::rule::Sees;
 use core::mem;
-use wal::{FIRST_POSITION, part};
+use wal::FIRST_POSITION;
 
 impl<L: LogName> LogReader<L> {
-    ghost use Rattle.shared_log.specs.Readers.{HasSeen, seen_of};
+    ghost use Rattle.shared_log.specs.Readers.{HasSeen, edge_of, seen_of};
 
     /// Goes to the place from which a stream reads that starts at this position, and answers the position there. Of the log
-    /// that it then sees the first `limit` records count. E1 where the log lets no reader in: the place stays. It takes no memory
-    /// and waits for nobody.
+    /// that it then sees the first `limit` records count. E1 where the log lets no reader in, E3 where the stream may need records
+    /// that were given back: the place stays. It takes no memory and waits for nobody.
     pub fn resume(&mut self, start: u64, limit: usize) -> Result<u64, ReadFault>
         ensures grows { IsPrefix (seen_of self.old) (seen_of self.new) }
         ensures told { self.new.told ≡ self.old.told }
@@ -35,6 +36,10 @@ impl<L: LogName> LogReader<L> {
         ensures err { OnErr result (self.new.place ≡ self.old.place) }
         ensures why { IfErr result (λ fault. HasSeen fault self.old self.new) }
         ensures entry { result ≢ Err ReadFault.Memory }
+        ensures edge { edge_of self.old ≤ edge_of self.new }
+        ensures from { OnOk result (edge_of self.new ≤ self.new.place) }
+        ensures removed { result ≡ Err ReadFault.Removed →
+            NeedsRemoved start limit (edge_of self.new) (seen_of self.new) }
     {
         mem::replace_with(self, (start, limit), |reader, about: (u64, usize)| {
             reader.resumed(about.0, about.1)
@@ -54,6 +59,10 @@ impl<L: LogName> LogReader<L> {
         ensures err { OnErr result.1 (result.0.place ≡ self.place) }
         ensures why { IfErr result.1 (λ fault. HasSeen fault self result.0) }
         ensures entry { result.1 ≢ Err ReadFault.Memory }
+        ensures edge { edge_of self ≤ edge_of result.0 }
+        ensures from { OnOk result.1 (edge_of result.0 ≤ result.0.place) }
+        ensures removed { result.1 ≡ Err ReadFault.Removed →
+            NeedsRemoved start limit (edge_of result.0) (seen_of result.0) }
     {
         let LogReader {
             reader,
@@ -72,7 +81,7 @@ impl<L: LogName> LogReader<L> {
             Ok(reading) => {
                 let copy = reading.get();
                 let is_there = told.is_in(&copy.mark);
-                let (first, position) = restart_of(part(copy.records.as_slice(), 0, limit), start);
+                let found = restart_of(copy, start, limit);
                 let reader = reading.leave();
                 if !is_there {
                     let same = LogReader {
@@ -82,61 +91,97 @@ impl<L: LogName> LogReader<L> {
                     };
                     return (same, Err(ReadFault::Stale));
                 }
-                let resumed = LogReader {
-                    reader,
-                    place: first,
-                    told,
-                };
-                return (resumed, Ok(position));
+                match found {
+                    Some((first, position)) => {
+                        let resumed = LogReader {
+                            reader,
+                            place: first,
+                            told,
+                        };
+                        return (resumed, Ok(position));
+                    }
+                    None => {
+                        let same = LogReader {
+                            reader,
+                            place,
+                            told,
+                        };
+                        return (same, Err(ReadFault::Removed));
+                    }
+                }
             }
         }
     }
 }
 
-/// The restart place of these records for a start position, and its position.
-fn restart_of(records: &[Logged], start: u64) -> (usize, u64)
-    requires kept { kept_in records.now ≡ with_restarts (records_in records.now) }
-    requires good { IsWellFormedLog (records_in records.now) }
-    ensures place { result.0 ≡ restart_place start (records_in records.now) }
-    ensures position { result.1 ≡ restart start (records_in records.now) }
+/// The restart place of the first `limit` records of the log for a start position, and its position; or none where what a stream
+/// needs may stand before the records that lie in memory.
+fn restart_of(copy: &LogCopy, start: u64, limit: usize) -> Option<(usize, u64)>
+    requires lies { LiesFrom (shown_records copy.now.mark.seen.log) copy.now.edge
+        (kept_in copy.now.records.items) }
+    requires good { IsWellFormedLog (shown_records copy.now.mark.seen.log) }
+    ensures place { IfSome result
+        (λ at. at.0 ≡ restart_place start (take limit (shown_records copy.now.mark.seen.log))) }
+    ensures position { IfSome result
+        (λ at. at.1 ≡ restart start (take limit (shown_records copy.now.mark.seen.log))) }
+    ensures from { IfSome result (λ at. copy.now.edge.place ≤ at.0) }
+    ensures none { IfNone result
+        (NeedsRemoved start limit copy.now.edge.place (shown_records copy.now.mark.seen.log)) }
 {
-    let place = oldest_at(records, place_from(records, start));
-    (place, position_at(records, place))
+    let within = match limit.checked_sub(copy.edge.place) {
+        Some(within) => within,
+        None => return None,
+    };
+    if 0 < copy.edge.place && start < copy.edge.position {
+        return None;
+    }
+    let place = oldest_at(copy, place_from(copy, start).min(within));
+    match place.checked_sub(copy.edge.place) {
+        Some(at) => Some((place, position_at(copy, at))),
+        None => None,
+    }
 }
 
-/// The place of the first record that starts at the position or later, found by halving, since they rise.
-fn place_from(records: &[Logged], start: u64) -> usize
-    requires { IsWellFormedLog (records_in records.now) }
-    ensures value { result ≡ place_from start (records_in records.now) }
-    ensures within { result ≤ length records.now }
+/// How many of the records that lie in a copy start before the position, found by halving, since they rise.
+fn place_from(copy: &LogCopy, start: u64) -> usize
+    requires lies { LiesFrom (shown_records copy.now.mark.seen.log) copy.now.edge
+        (kept_in copy.now.records.items) }
+    requires good { IsWellFormedLog (shown_records copy.now.mark.seen.log) }
+    ensures value { result ≡ place_from start (records_in copy.now.records.items) }
+    ensures within { result ≤ length copy.now.records.items }
 {
-    records.partition_point(
+    copy.records.partition_point(
         |logged: &Logged| -> bool
             ensures { result ≡ nat_lt logged.now.entry.value.start start }
         { logged.entry.start < start },
     )
 }
 
-/// The place of the earliest record of a transaction that is in progress at this place, as it was kept there.
-fn oldest_at(records: &[Logged], place: usize) -> usize
-    requires kept { kept_in records.now ≡ with_restarts (records_in records.now) }
-    requires within { place ≤ length records.now }
-    ensures value { result ≡ oldest (take place (records_in records.now)) }
-    ensures within { result ≤ length records.now }
+/// The place of the earliest record of a transaction that is in progress behind so many of the records that lie in a copy, as it
+/// was kept there.
+fn oldest_at(copy: &LogCopy, count: usize) -> usize
+    requires lies { LiesFrom (shown_records copy.now.mark.seen.log) copy.now.edge
+        (kept_in copy.now.records.items) }
+    requires within { count ≤ length copy.now.records.items }
+    ensures { result
+        ≡ oldest (take (copy.now.edge.place + count) (shown_records copy.now.mark.seen.log)) }
 {
-    if place == 0 {
-        return 0;
+    if count == 0 {
+        return copy.edge.restart;
     }
-    records[place - 1].restart
+    copy.records[count - 1].restart
 }
 
-/// The position of a place: where the record before it ends.
-fn position_at(records: &[Logged], place: usize) -> u64
-    requires { place ≤ length records.now }
-    ensures { result ≡ end_of FIRST_POSITION (take place (records_in records.now)) }
+/// The position behind so many of the records that lie in a copy: where the record before it ends.
+fn position_at(copy: &LogCopy, count: usize) -> u64
+    requires lies { LiesFrom (shown_records copy.now.mark.seen.log) copy.now.edge
+        (kept_in copy.now.records.items) }
+    requires within { count ≤ length copy.now.records.items }
+    ensures { result ≡ end_of FIRST_POSITION
+        (take (copy.now.edge.place + count) (shown_records copy.now.mark.seen.log)) }
 {
-    if place == 0 {
-        return FIRST_POSITION;
+    if count == 0 {
+        return copy.edge.position;
     }
-    records[place - 1].entry.end
+    copy.records[count - 1].entry.end
 }

@@ -7,9 +7,10 @@ use std::collections::LinkedList;
 use std::marker::PhantomData;
 use wal::Record;
 
-/// What a reader or the writer has seen of the log. No value of it is made.
+/// What a reader or the writer has seen of the log, and where it began in memory. No value of it is made.
 pub struct View {
     pub seen: LinkedList<Record>,
+    pub edge: usize,
 }
 
 /// The rule of a log's readers and its writer.
@@ -18,11 +19,12 @@ pub struct Published<L> {
 }
 
 impl<L: LogName> Protocol<LogCopy, View> for Published<L> {
-    ghost use Rattle.shared_log.specs.Kept.{kept_in, records_in};
+    ghost use Rattle.shared_log.specs.Fronts.{shown_records};
+    ghost use Rattle.shared_log.specs.Kept.{kept_in};
     ghost use Rattle.shared_log.specs.Sharing.{Keeps, newcomer};
 
-    ghost holds = { λ c. Keeps L.book (records_in c.records.items) (kept_in c.records.items)
-        c.mark.seen.book c.mark.seen.log };
+    ghost holds = { λ c. Keeps L.book (shown_records c.mark.seen.log) c.edge
+        (kept_in c.records.items) c.mark.seen.book };
 
     ghost first = { newcomer };
 }
@@ -33,9 +35,10 @@ pub(crate) struct Sees<L> {
 }
 
 impl<L: LogName> Outcome<LogCopy, View> for Sees<L> {
-    ghost use Rattle.shared_log.specs.Kept.{kept_in, records_in};
+    ghost use Rattle.shared_log.specs.Fronts.{shown_records};
+    ghost use Rattle.shared_log.specs.Kept.{kept_in};
     ghost use Rattle.shared_log.specs.Sharing.{Saw};
 
-    ghost then = { λ v before after w. Saw L.book v (records_in after.records.items)
-        (kept_in after.records.items) after.mark.seen.book after.mark.seen.log w };
+    ghost then = { λ v before after w. Saw L.book v (shown_records after.mark.seen.log) after.edge
+        (kept_in after.records.items) after.mark.seen.book w };
 }

@@ -4,6 +4,7 @@ ghost use Rattle.std.specs.Prelude.{◌≡◌, ◌+◌, ◌<◌, ◌^◌, ◌++�
 ghost use Rattle.std.specs.Arc.{arc_value};
 ghost use Rattle.wal.specs.Log.{IsWellFormedLog, end_of, size_of};
 ghost use Rattle.wal.specs.Records.{record_after};
+ghost use Rattle.wal.specs.Restart.{oldest};
 ghost use Rattle.wal.specs.declared.record.TheConstants.{FIRST_POSITION};
 ghost use Rattle.shared_log.specs.Fronts.{ends_confirmed, settled_records};
 ghost use Rattle.shared_log.specs.Openings.{owner_of};
@@ -125,12 +126,25 @@ impl<L: LogName> LogState<L> {
         Ok((entry, outline))
     }
 
-    /// Offers a record to the history, and answers what enters the copies. Nothing is offered where memory is refused, nor
-    /// where the history is too long.
-    pub fn offer(&mut self, entry: Arc<Record>, outline: Outline) -> Result<Put, AllocError>
+    /// The place of the oldest record of a transaction in progress, or the end of the log.
+    pub fn oldest(&self) -> usize
+        ensures { result ≡ oldest (settled_records self.now) }
+    {
+        self.openings.oldest(self.count)
+    }
+
+    /// Offers a record to the history, and answers what enters the copies, which then begin at the edge. Nothing is offered where
+    /// memory is refused, nor where the history is too long.
+    pub fn offer(
+        &mut self,
+        entry: Arc<Record>,
+        outline: Outline,
+        edge: usize,
+    ) -> Result<Put, AllocError>
         requires { IsOutline (settled_records self.old) (arc_value entry) outline }
         ensures put { IfOk result
             (λ put. IsPut L.book (settled_records self.old) (arc_value entry) self.new put) }
+        ensures edge { IfOk result (λ put. put.edge ≡ edge) }
         ensures ok { OnOk result
             ((self.new ≡ self.old ++ Offered (arc_value entry) ∷ [])
             × IsOffered self.new outline) }
@@ -148,6 +162,7 @@ impl<L: LogName> LogState<L> {
             place: self.count,
             entry,
             restart,
+            edge,
             mark: next.mark(),
         };
         self.front = next;

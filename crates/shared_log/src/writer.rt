@@ -10,10 +10,11 @@ ghost use Rattle.std.specs.List.{AllByRecursion};
 ghost use Rattle.shared_log.specs.Fronts.{ends_confirmed, settled_records};
 ghost use Rattle.shared_log.specs.Openings.{owner_of};
 ghost use Rattle.shared_log.specs.Telling.{TellsOf};
-ghost use Rattle.shared_log.specs.Writing.{IsOutline};
+ghost use Rattle.shared_log.specs.Writing.{IsEmptyCopy, IsOutline, after_giving};
 
 use crate::copy::{LogCopy, Put};
 use crate::front::Front;
+use crate::given::next_edge;
 use crate::mark::Mark;
 use crate::name::LogName;
 use crate::opened::Opened;
@@ -29,34 +30,37 @@ use std::marker::Model;
 use std::sync::{Arc, Wait};
 use wal::{Body, LoggedChange, Record};
 
-/// Writes the log, whose records readers see once they stand in it whole. Contracts see the records.
+/// Writes the log, whose records readers see once they stand in it whole. Contracts see the records, and the place up to which they
+/// may be given back: with each record that is added, copies give back a few of those before it.
 ///
 /// It isn't `Drop`: `close` ends it.
 pub struct LogWriter<L: LogName> {
     writer: Writer<LogCopy, Put, View, Published<L>>,
     state: LogState<L>,
+    /// Where the copies begin that have all that was published or waits.
+    edge: usize,
+    given: usize,
 }
 
 impl<L: LogName> Model for LogWriter<L> {
-    ghost use Rattle.std.specs.Prelude.{List, drop};
-    ghost use Rattle.wal.specs.declared.record.Record.{Record as Written};
+    ghost use Rattle.std.specs.Prelude.{drop};
     ghost use Rattle.shared_log.specs.Fronts.{settled_records};
     ghost use Rattle.shared_log.specs.Kept.{kept_in};
-    ghost use Rattle.shared_log.specs.Writing.{Shows};
+    ghost use Rattle.shared_log.specs.Writing.{Shows, Written};
 
-    ghost Value = { List Written };
+    ghost Value = { Written };
 
-    ghost view = { λ w. settled_records w.state };
+    ghost view = { λ w. record { records = settled_records w.state; given = w.given } };
 
-    ghost invariant = { λ w. Shows (settled_records w.state)
-        (kept_in w.writer.desk.shown.value.records.items)
-        (drop w.writer.behind w.writer.log.items) };
+    ghost invariant = { λ w. let shown = w.writer.desk.shown.value in
+        Shows (settled_records w.state) w.edge w.given shown.mark.seen.log shown.edge
+        (kept_in shown.records.items) (drop w.writer.behind w.writer.log.items) };
 }
 
 impl<L: LogName> LogWriter<L> {
     ghost use Rattle.shared_log.specs.Readers.{seen_of};
 
-    /// An empty log with room for so many records, and as many readers. Where memory is refused, nothing is left of it.
+    /// An empty log with room in memory for so many records, and as many readers. Where memory is refused, nothing is left of it.
     pub fn open<R: Wait>(
         rt: &R,
         alloc: Global,
@@ -67,13 +71,21 @@ impl<L: LogName> LogWriter<L> {
         requires name { opened.seen.book ≡ L.book }
         requires some { 0 < readers }
         requires few { readers ≤ 32 }
-        ensures empty { IfOk result (λ r. r.0 ≡ []) }
+        ensures empty { IfOk result (λ r. r.0 ≡ record { records = []; given = 0 }) }
         ensures readers { IfOk result
             (λ r. (vec_len r.1 ≡ readers) × AllByRecursion (λ reader. reader.place ≡ 0) r.1.items) }
     {
         let state = LogState::<L>::open(alloc, opened)?;
         match copies_of(rt, alloc, state.front(), records, readers) {
-            Ok((writer, made)) => Ok((LogWriter { writer, state }, made)),
+            Ok((writer, made)) => {
+                let log = LogWriter {
+                    writer,
+                    state,
+                    edge: 0,
+                    given: 0,
+                };
+                Ok((log, made))
+            }
             Err(fault) => {
                 drop(state);
                 Err(fault)
@@ -83,24 +95,40 @@ impl<L: LogName> LogWriter<L> {
 
     /// How many records the log has.
     pub fn count(&self) -> usize
-        ensures { result ≡ length self.now }
+        ensures { result ≡ length self.now.records }
     {
         self.state.count()
     }
 
     /// The position where the log ends.
     pub fn end(&self) -> u64
-        ensures { result ≡ end_of FIRST_POSITION self.now }
+        ensures { result ≡ end_of FIRST_POSITION self.now.records }
     {
         self.state.end()
     }
 
+    /// The place up to which records may be given back.
+    pub fn given(&self) -> usize
+        ensures value { result ≡ self.now.given }
+        ensures within { self.now.given ≤ length self.now.records }
+    {
+        self.given
+    }
+
+    /// Lets the records before a place be given back, but for those from the oldest of a transaction in progress on. A reader that
+    /// asks for one that was given back is told so.
+    pub fn give_back(&mut self, up_to: usize)
+        ensures { self.new ≡ after_giving up_to self.old }
+    {
+        self.given = self.given.max(up_to.min(self.state.oldest()));
+    }
+
     /// Tells a reader of the whole log: its next fetch sees no less. It answers how many records that are, and takes no memory.
     pub fn tell(&mut self, reader: &mut LogReader<L>) -> usize
-        ensures count { result ≡ length self.old }
+        ensures count { result ≡ length self.old.records }
         ensures same { self.new ≡ self.old }
         ensures kept { IsPrefix reader.old.told reader.new.told }
-        ensures told { IsPrefix self.old (settled_records reader.new.told) }
+        ensures told { IsPrefix self.old.records (settled_records reader.new.told) }
         ensures place { (seen_of reader.new ≡ seen_of reader.old)
             × (reader.new.place ≡ reader.old.place) }
     {
@@ -110,22 +138,30 @@ impl<L: LogName> LogWriter<L> {
 
     /// Ends the log. It waits for readers that are in it; later fetches are E1.
     pub fn close<R: Wait>(self, rt: &R) {
-        let LogWriter { writer, state: _ } = self;
+        let LogWriter {
+            writer,
+            state: _,
+            edge: _,
+            given: _,
+        } = self;
         drop(writer.take(rt));
     }
 
     /// Adds a record of the transaction `top` at the end, or, where memory is refused, nothing. It waits for readers that are in an
     /// older copy.
     pub fn push<R: Wait>(&mut self, rt: &R, top: u32, body: Body) -> Result<Receipt<L>, AllocError>
-        requires fits { end_of FIRST_POSITION self.old + size_of body < 2 ^ 64 }
-        requires good { IsWellFormedLog (self.old ++ record_after self.old body ∷ []) }
-        requires top { top_of (self.old ++ record_after self.old body ∷ []) (xid_in body) ≡ top }
+        requires fits { end_of FIRST_POSITION self.old.records + size_of body < 2 ^ 64 }
+        requires good { IsWellFormedLog
+            (self.old.records ++ record_after self.old.records body ∷ []) }
+        requires top { top_of (self.old.records ++ record_after self.old.records body ∷ [])
+            (xid_in body) ≡ top }
         requires own { is_note body ≡ false }
         ensures ok { IfOk result
-            (λ r. (self.new ≡ self.old ++ record_after self.old body ∷ [])
-            × TellsOf (record_after self.old body) r.start r.end × (r.place ≡ length self.old)
-            × (settled_records r.front ≡ self.new)) }
-        ensures err { OnErr result (self.new ≡ self.old) }
+            (λ r. (self.new.records ≡ self.old.records ++ record_after self.old.records body ∷ [])
+            × TellsOf (record_after self.old.records body) r.start r.end
+            × (r.place ≡ length self.old.records) × (settled_records r.front ≡ self.new.records)) }
+        ensures err { OnErr result (self.new.records ≡ self.old.records) }
+        ensures given { self.new.given ≡ self.old.given }
     {
         mem::replace_with(self, (rt, top, body), |writer, about: (&R, u32, Body)| {
             writer.pushed(about.0, Some(about.1), about.2)
@@ -138,18 +174,36 @@ impl<L: LogName> LogWriter<L> {
         rt: &R,
         message: LoggedChange,
     ) -> Result<Receipt<L>, AllocError>
-        requires fits { end_of FIRST_POSITION self.old + size_of (Body.Note message) < 2 ^ 64 }
+        requires fits { end_of FIRST_POSITION self.old.records + size_of (Body.Note message)
+            < 2 ^ 64 }
         requires good { IsWellFormedLog
-            (self.old ++ record_after self.old (Body.Note message) ∷ []) }
+            (self.old.records ++ record_after self.old.records (Body.Note message) ∷ []) }
         ensures ok { IfOk result
-            (λ r. (self.new ≡ self.old ++ record_after self.old (Body.Note message) ∷ [])
-            × TellsOf (record_after self.old (Body.Note message)) r.start r.end
-            × (r.place ≡ length self.old) × (settled_records r.front ≡ self.new)) }
-        ensures err { OnErr result (self.new ≡ self.old) }
+            (λ r. (self.new.records
+            ≡ self.old.records ++ record_after self.old.records (Body.Note message) ∷ [])
+            × TellsOf (record_after self.old.records (Body.Note message)) r.start r.end
+            × (r.place ≡ length self.old.records) × (settled_records r.front ≡ self.new.records)) }
+        ensures err { OnErr result (self.new.records ≡ self.old.records) }
+        ensures given { self.new.given ≡ self.old.given }
     {
         mem::replace_with(self, (rt, message), |writer, about: (&R, LoggedChange)| {
-            writer.pushed(about.0, None, Body::Note(about.1))
+            writer.noted(about.0, about.1)
         })
+    }
+
+    fn noted<R: Wait>(self, rt: &R, message: LoggedChange) -> (Self, Result<Receipt<L>, AllocError>)
+        requires fits { end_of FIRST_POSITION self.records + size_of (Body.Note message) < 2 ^ 64 }
+        requires good { IsWellFormedLog
+            (self.records ++ record_after self.records (Body.Note message) ∷ []) }
+        ensures ok { IfOk result.1
+            (λ r. (result.0.records
+            ≡ self.records ++ record_after self.records (Body.Note message) ∷ [])
+            × TellsOf (record_after self.records (Body.Note message)) r.start r.end
+            × (r.place ≡ length self.records) × (settled_records r.front ≡ result.0.records)) }
+        ensures err { OnErr result.1 (result.0.records ≡ self.records) }
+        ensures given { result.0.given ≡ self.given }
+    {
+        self.pushed(rt, None, Body::Note(message))
     }
 
     fn pushed<R: Wait>(
@@ -158,15 +212,16 @@ impl<L: LogName> LogWriter<L> {
         top: Option<u32>,
         body: Body,
     ) -> (Self, Result<Receipt<L>, AllocError>)
-        requires fits { end_of FIRST_POSITION self + size_of body < 2 ^ 64 }
-        requires good { IsWellFormedLog (self ++ record_after self body ∷ []) }
-        requires top { owner_of (self ++ record_after self body ∷ []) (record_after self body)
-            ≡ top }
+        requires fits { end_of FIRST_POSITION self.records + size_of body < 2 ^ 64 }
+        requires good { IsWellFormedLog (self.records ++ record_after self.records body ∷ []) }
+        requires top { owner_of (self.records ++ record_after self.records body ∷ [])
+            (record_after self.records body) ≡ top }
         ensures ok { IfOk result.1
-            (λ r. (result.0 ≡ self ++ record_after self body ∷ [])
-            × TellsOf (record_after self body) r.start r.end × (r.place ≡ length self)
-            × (settled_records r.front ≡ result.0)) }
-        ensures err { OnErr result.1 (result.0 ≡ self) }
+            (λ r. (result.0.records ≡ self.records ++ record_after self.records body ∷ [])
+            × TellsOf (record_after self.records body) r.start r.end
+            × (r.place ≡ length self.records) × (settled_records r.front ≡ result.0.records)) }
+        ensures err { OnErr result.1 (result.0.records ≡ self.records) }
+        ensures given { result.0.given ≡ self.given }
     {
         match self.state.draft(top, body) {
             Ok((entry, outline)) => self.offered(rt, entry, outline),
@@ -181,32 +236,68 @@ impl<L: LogName> LogWriter<L> {
         entry: Arc<Record>,
         outline: Outline,
     ) -> (Self, Result<Receipt<L>, AllocError>)
-        requires { IsOutline self (arc_value entry) outline }
+        requires { IsOutline self.records (arc_value entry) outline }
         ensures ok { IfOk result.1
-            (λ r. (result.0 ≡ self ++ arc_value entry ∷ [])
-            × TellsOf (arc_value entry) r.start r.end × (r.place ≡ length self)
-            × (settled_records r.front ≡ result.0)) }
-        ensures err { OnErr result.1 (result.0 ≡ self) }
+            (λ r. (result.0.records ≡ self.records ++ arc_value entry ∷ [])
+            × TellsOf (arc_value entry) r.start r.end × (r.place ≡ length self.records)
+            × (settled_records r.front ≡ result.0.records)) }
+        ensures err { OnErr result.1 (result.0.records ≡ self.records) }
+        ensures given { result.0.given ≡ self.given }
     {
         let LogWriter {
             mut writer,
             mut state,
+            edge,
+            given,
         } = self;
-        let put = match state.offer(entry, outline) {
+        let edge = next_edge(edge, given);
+        let put = match state.offer(entry, outline, edge) {
             Ok(put) => put,
-            Err(fault) => return (LogWriter { writer, state }, Err(fault)),
+            Err(fault) => return (
+                LogWriter {
+                    writer,
+                    state,
+                    edge,
+                    given,
+                },
+                Err(fault),
+            ),
         };
         match writer.append(put) {
             Ok(()) => {}
-            Err(_) => return (LogWriter { writer, state }, Err(AllocError)),
+            Err(_) => return (
+                LogWriter {
+                    writer,
+                    state,
+                    edge,
+                    given,
+                },
+                Err(AllocError),
+            ),
         }
         let (writer, published) = writer.publish_as::<Sees<L>, R>(rt);
         match published {
             Ok(()) => {
                 let receipt = state.confirm(rt, outline);
-                (LogWriter { writer, state }, Ok(receipt))
+                (
+                    LogWriter {
+                        writer,
+                        state,
+                        edge,
+                        given,
+                    },
+                    Ok(receipt),
+                )
             }
-            Err(fault) => (LogWriter { writer, state }, Err(fault)),
+            Err(fault) => (
+                LogWriter {
+                    writer,
+                    state,
+                    edge,
+                    given,
+                },
+                Err(fault),
+            ),
         }
     }
 }
@@ -222,7 +313,8 @@ fn copies_of<L: LogName, R: Wait>(
     requires fresh { front.now ≡ [] }
     requires some { 0 < readers }
     requires few { readers ≤ 32 }
-    ensures shown { IfOk result (λ made. made.0.desk.shown.value.records.items ≡ []) }
+    ensures shown { IfOk result (λ made. IsEmptyCopy made.0.desk.shown.value
+        × (made.0.desk.shown.value.mark.seen.log ≡ [])) }
     ensures waits { IfOk result (λ made. drop made.0.behind made.0.log.items ≡ []) }
     ensures readers { IfOk result
         (λ made. (vec_len made.1 ≡ readers)
@@ -248,7 +340,8 @@ fn writer_of<L: LogName>(
     requires fresh { (mark.now.seen.log ≡ []) × (mark.now.seen.book ≡ L.book) }
     requires some { 0 < readers }
     requires few { readers ≤ 32 }
-    ensures shown { IfOk result (λ writer. writer.desk.shown.value.records.items ≡ []) }
+    ensures shown { IfOk result (λ writer. IsEmptyCopy writer.desk.shown.value
+        × (writer.desk.shown.value.mark.seen.log ≡ [])) }
     ensures waits { IfOk result (λ writer. drop writer.behind writer.log.items ≡ []) }
 {
     let first = LogCopy::empty(alloc, records, mark)?;

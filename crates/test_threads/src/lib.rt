@@ -11,6 +11,8 @@ mod follower;
 #[cfg(test)]
 mod gated;
 #[cfg(test)]
+mod giving_calls;
+#[cfg(test)]
 mod hub_fixture;
 #[cfg(test)]
 mod load_calls;

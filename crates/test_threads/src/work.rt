@@ -3,6 +3,7 @@
 ghost use Rattle.std.specs.Prelude.{◌≡◌};
 
 use crate::drain_calls::drain_by_bytes;
+use crate::giving_calls::give_all_back;
 use crate::load_calls::run_load;
 use crate::log_fixture::opened;
 use crate::receipt_calls::learn_elsewhere;
@@ -23,13 +24,14 @@ pub enum Work {
     LookTwice,
     TurnNarrowly,
     DrainByBytes,
+    GiveBack,
     Load,
 }
 
 impl Work {
     fn readers(self) -> usize {
         match self {
-            Work::LearnElsewhere | Work::TurnNarrowly | Work::DrainByBytes => 1,
+            Work::LearnElsewhere | Work::TurnNarrowly | Work::DrainByBytes | Work::GiveBack => 1,
             Work::LookTwice | Work::Load => 2,
         }
     }
@@ -72,6 +74,7 @@ fn with_log<L: LogName + Send + Sync, R: Threads + Wait + Abort + Sync>(
         (Work::LookTwice, [plain, fed]) => look_twice(rt, alloc, desk, plain, fed),
         (Work::TurnNarrowly, [reader]) => turn_narrowly(rt, alloc, desk, reader),
         (Work::DrainByBytes, [reader]) => drain_by_bytes(rt, alloc, desk, reader),
+        (Work::GiveBack, [reader]) => give_all_back(rt, alloc, desk, reader),
         (Work::Load, [reader, last]) => run_load(rt, alloc, desk, reader, last),
         _ => Err(Fail::from("as many readers")),
     }

@@ -12,7 +12,7 @@ use Rattle.store.specs.History.{change_made, count_of, history_after_rollback, h
 use Rattle.store.specs.Keeping.{StoreState, Keeps}
 use Rattle.tables.proofs.Lengths.{insert_length, delete_length, two_rows_length, truncate_length, message_length}
 use Rattle.txlog.specs.declared.savepoint.Savepoint.{Savepoint}
-use Rattle.txlog.specs.declared.limits.TheConstants.{MAX_DEPTH, MAX_LIVE, MAX_RECORDS}
+use Rattle.txlog.specs.declared.limits.TheConstants.{MAX_DEPTH, MAX_LIVE, MAX_RECORDS, MOST_RECORDS}
 use Rattle.wal.specs.declared.record.TheConstants.{FIRST_POSITION}
 use Rattle.wal.specs.declared.record.Record.{Record}
 use Rattle.wal.specs.declared.record.Body.TheVariants.{Assign, Change as Changed, AbortSub, Abort, Commit, Note}
@@ -236,5 +236,22 @@ pub begun_kept : (store : StoreState) (s : PublisherState) → KeepsLog store s 
 begun_kept store s h few free = record {
   publisher = begun-IsPublisher s h.publisher few free;
   marked = all_append (IsMarked s.log) s.live (record { xid = s.next_xid; savepoints = [] } ∷ []) h.marked (tt, tt);
+  rows = h.rows;
+}
+
+-- records that may be given back make room
+pub given_back_kept : (store : StoreState) (s : PublisherState) (given capacity : ℕ) → KeepsLog store s → s.capacity ≤ capacity → capacity ≤ MOST_RECORDS → KeepsLog store (record s { given = given; capacity = capacity })
+given_back_kept store s given capacity h more limit = record {
+  publisher = record {
+    log = h.publisher.log;
+    limit = limit;
+    reserve = omega (arith, h.publisher.reserve, more);
+    xids = h.publisher.xids;
+    few = h.publisher.few;
+    fresh = h.publisher.fresh;
+    rising = h.publisher.rising;
+    live = h.publisher.live;
+  };
+  marked = h.marked;
   rows = h.rows;
 }

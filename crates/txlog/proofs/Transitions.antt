@@ -7,7 +7,7 @@ use Rattle.std.proofs.lemmas.Bool.{ne_eqb}
 use Rattle.tables.specs.declared.table.Table.{Table}
 use Rattle.tables.specs.declared.change.Change.{Change}
 use Rattle.tables.specs.Tables.{FitsChange}
-use Rattle.txlog.specs.declared.limits.TheConstants.{MAX_LIVE, MAX_DEPTH, MAX_RECORDS}
+use Rattle.txlog.specs.declared.limits.TheConstants.{MAX_LIVE, MAX_DEPTH, MAX_RECORDS, MOST_RECORDS}
 use Rattle.wal.specs.declared.record.TheConstants.{FIRST_POSITION, FIRST_XID}
 use Rattle.txlog.specs.declared.savepoint.Savepoint.{Savepoint}
 use Rattle.wal.specs.declared.record.Record.{Record}
@@ -24,7 +24,7 @@ use Rattle.txlog.proofs.Progress.{onto, chain-innermost, IsOpen-innermost, xids-
 
 -- THE LOG
 
-log_grown : (tables : List Table) (log : List Record) (body : Body) → IsLog tables log → IsNext log body → FitsBody tables body → size_of body ≤ 2 ^ 14 → length log < MAX_RECORDS →
+log_grown : (tables : List Table) (log : List Record) (body : Body) → IsLog tables log → IsNext log body → FitsBody tables body → size_of body ≤ 2 ^ 14 → length log < MOST_RECORDS →
     IsLog tables (log ++ record_after log body ∷ [])
 log_grown tables log body h next fits small few =
     record {
@@ -85,10 +85,10 @@ unnamed-undoes x (Commit xid time) none = refl
 
 -- CALLS THAT WRITE NO RECORD
 
-pub new_publisher-IsPublisher : (tables : List Table) (records : ℕ) → records ≤ MAX_RECORDS → IsPublisher (record { tables = tables; capacity = records; log = []; next_xid = FIRST_XID; live = [] })
+pub new_publisher-IsPublisher : (tables : List Table) (records : ℕ) → records ≤ MAX_RECORDS → IsPublisher (record { tables = tables; capacity = records; log = []; given = 0; next_xid = FIRST_XID; live = [] })
 new_publisher-IsPublisher tables records le = record {
   log = record { good = record { follows = refl; sizes = tt; order = tt }; in_range = tt; near = omega arith };
-  limit = le;
+  limit = omega (arith, le);
   reserve = omega arith;
   xids = omega arith;
   few = omega arith;

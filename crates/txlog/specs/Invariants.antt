@@ -3,7 +3,7 @@ use Rattle.std.specs.Prelude.{◌≡◌, ℕ, zero, suc, ◌+◌, ◌*◌, ◌^�
 use Rattle.std.specs.List.{list_any, AllByRecursion}
 use Rattle.store.specs.Keeping.{StoreState, Keeps}
 use Rattle.tables.specs.declared.table.Table.{Table}
-use Rattle.txlog.specs.declared.limits.TheConstants.{MAX_LIVE, MAX_DEPTH, MAX_RECORDS}
+use Rattle.txlog.specs.declared.limits.TheConstants.{MAX_LIVE, MAX_DEPTH, MOST_RECORDS}
 use Rattle.wal.specs.declared.record.TheConstants.{FIRST_POSITION, FIRST_XID}
 use Rattle.wal.specs.declared.record.Record.{Record}
 use Rattle.wal.specs.Log.{Entry, IsWellFormedLog, IsLogInRange, end_of, chain, top_of, is_named, is_assigned, is_undone, has_ended}
@@ -42,7 +42,7 @@ IsRising (o ∷ live) = AllByRecursion (λ p. o.xid < p.xid) live × IsRising li
 -- Each live transaction has a place in reserve, and each xid a record or such a place.
 pub record IsPublisher (s : PublisherState) : Type 0 where
   pub log : IsLog s.tables s.log
-  pub limit : s.capacity ≤ MAX_RECORDS
+  pub limit : s.capacity ≤ MOST_RECORDS
   pub reserve : length s.log + length s.live ≤ s.capacity
   pub xids : s.next_xid ≤ FIRST_XID + (length s.log + length s.live)
   pub few : length s.live ≤ MAX_LIVE

@@ -1,6 +1,6 @@
 -- What sessions do to a publisher: each call as a function of its state, and the refusal that a call meets, if any. Want of
 -- memory apart, a call is refused exactly where there is such a refusal, and with the first one.
-use Rattle.std.specs.Prelude.{◌≡◌, ℕ, ◌+◌, ◌-◌, ◌==◌, ℤ, Bool, ◌||◌, not, List, [], ◌∷◌, ◌++◌, length, take, map, filter, slice_index, codes, nat_le, nat_lt, Option, Some, None, Result, Ok, Err, if◌then◌else◌}
+use Rattle.std.specs.Prelude.{◌≡◌, ℕ, ◌+◌, ◌-◌, ◌==◌, ℤ, Bool, ◌||◌, not, List, [], ◌∷◌, ◌++◌, length, take, map, filter, min, slice_index, codes, nat_le, nat_lt, Option, Some, None, Result, Ok, Err, if◌then◌else◌}
 use Rattle.std.specs.List.{list_any}
 use Rattle.store.specs.declared.store_fault.StoreFault.{StoreFault}
 use Rattle.store.specs.declared.store_fault.StoreFault.TheVariants as store_faults
@@ -11,7 +11,7 @@ use Rattle.tables.specs.declared.change.Change.TheVariants as changes
 use Rattle.store.specs.Rows.{Key}
 use Rattle.store.specs.History as history
 use Rattle.store.specs.History.{count_of}
-use Rattle.txlog.specs.declared.limits.TheConstants.{MAX_LIVE, MAX_DEPTH, MAX_READERS}
+use Rattle.txlog.specs.declared.limits.TheConstants.{MAX_LIVE, MAX_DEPTH, MAX_READERS, MOST_RECORDS}
 use Rattle.wal.specs.declared.record.TheConstants.{FIRST_POSITION, FIRST_XID}
 use Rattle.wal.specs.declared.record.Record.{Record}
 use Rattle.wal.specs.declared.record.Body.{Body}
@@ -21,6 +21,7 @@ use Rattle.txlog.specs.declared.fault.SessionFault.TheVariants as faults
 use Rattle.txlog.specs.declared.savepoint.Savepoint.{Savepoint}
 use Rattle.wal.specs.Log.{end_of, last_of, size_of}
 use Rattle.wal.specs.Records.{record_after}
+use Rattle.shared_log.specs.Kept.{given_after}
 use Rattle.txlog.specs.Receipts.{Committed}
 use Rattle.txlog.specs.Rows.{history_of, rows_of}
 
@@ -34,17 +35,18 @@ pub record LiveTransaction : Type 0 where
 abbrev pub xids : List Savepoint → List ℕ
 xids savepoints = map (λ s. s.xid) savepoints
 
--- the tables, the greatest number of records, the log, the xid that comes next, and the live transactions in the order of
--- their xids
+-- the tables, the greatest number of records that the log may have so far, the log, the place up to which its records may be given
+-- back, the xid that comes next, and the live transactions in the order of their xids
 pub record PublisherState : Type 0 where
   pub tables : List Table
   pub capacity : ℕ
   pub log : List Record
+  pub given : ℕ
   pub next_xid : ℕ
   pub live : List LiveTransaction
 
 abbrev pub new_publisher : List Table → ℕ → PublisherState
-new_publisher tables records = record { tables = tables; capacity = records; log = []; next_xid = FIRST_XID; live = [] }
+new_publisher tables records = record { tables = tables; capacity = records; log = []; given = 0; next_xid = FIRST_XID; live = [] }
 
 abbrev pub log_end : PublisherState → ℕ
 log_end s = end_of FIRST_POSITION s.log
@@ -132,6 +134,14 @@ after_commit xid time s = after_end xid (Commit xid time) s
 
 abbrev pub after_abort : ℕ → PublisherState → PublisherState
 after_abort xid s = after_end xid (Abort xid) s
+
+-- The records before a place may be given back, but for those from the oldest of a transaction in progress on. The log may have as many
+-- more, up to the limit of places and xids.
+abbrev pub after_give_back : ℕ → PublisherState → PublisherState
+after_give_back up_to s = record s {
+  given = given_after up_to s.log s.given;
+  capacity = min MOST_RECORDS (s.capacity + (given_after up_to s.log s.given - s.given));
+}
 
 -- what a commit tells: the place of its record in the log, where it starts and ends, and the transaction's xid
 abbrev pub receipt_of : ℕ → ℤ → PublisherState → Committed

@@ -182,15 +182,18 @@ fn write<L: LogName, R: Wait>(
 ) -> Result<(), SessionFault>
     requires short { IsShort change }
     requires coded { IsCoded change }
-    requires fits { end_of FIRST_POSITION log.old + 2 ^ 14 < 2 ^ 64 }
+    requires fits { end_of FIRST_POSITION log.old.records + 2 ^ 14 < 2 ^ 64 }
     requires good { 0 < at.room →
-        IsWellFormedLog (log.old ++ record_after log.old (Body.Change at.innermost change) ∷ []) }
-    requires top { top_of log.old at.innermost ≡ at.xid }
+        IsWellFormedLog
+        (log.old.records ++ record_after log.old.records (Body.Change at.innermost change) ∷ []) }
+    requires top { top_of log.old.records at.innermost ≡ at.xid }
     ensures ok { OnOk result
-        ((log.new ≡ log.old ++ record_after log.old (Body.Change at.innermost change) ∷ [])
+        ((log.new.records
+        ≡ log.old.records ++ record_after log.old.records (Body.Change at.innermost change) ∷ [])
         × (store.new ≡ store.old)) }
     ensures room { OnOk result (0 < at.room) }
-    ensures err { OnErr result (log.new ≡ log.old) }
+    ensures err { OnErr result (log.new.records ≡ log.old.records) }
+    ensures given { log.new.given ≡ log.old.given }
     ensures undone { OnErr result
         ((history : List Made) → Keeps store.old history →
         Keeps store.new (history_after_rollback at.xid at.mark history)) }
@@ -222,13 +225,16 @@ fn push<L: LogName, R: Wait>(
 ) -> Result<(), AllocError>
     requires short { IsShort change.now }
     requires coded { IsCoded change.now }
-    requires fits { end_of FIRST_POSITION log.old + 2 ^ 14 < 2 ^ 64 }
+    requires fits { end_of FIRST_POSITION log.old.records + 2 ^ 14 < 2 ^ 64 }
     requires good { IsWellFormedLog
-        (log.old ++ record_after log.old (Body.Change at.innermost change.now) ∷ []) }
-    requires top { top_of log.old at.innermost ≡ at.xid }
+        (log.old.records
+        ++ record_after log.old.records (Body.Change at.innermost change.now) ∷ []) }
+    requires top { top_of log.old.records at.innermost ≡ at.xid }
     ensures ok { OnOk result
-        (log.new ≡ log.old ++ record_after log.old (Body.Change at.innermost change.now) ∷ []) }
-    ensures err { OnErr result (log.new ≡ log.old) }
+        (log.new.records ≡ log.old.records
+        ++ record_after log.old.records (Body.Change at.innermost change.now) ∷ []) }
+    ensures err { OnErr result (log.new.records ≡ log.old.records) }
+    ensures given { log.new.given ≡ log.old.given }
 {
     let logged = LoggedChange::of(at.alloc, change)?;
     log.push(rt, at.xid, Body::Change(at.innermost, logged))?;

@@ -16,7 +16,7 @@ mod savepoint;
 mod tx;
 
 pub use fault::SessionFault;
-pub use limits::{MAX_DEPTH, MAX_LIVE, MAX_READERS, MAX_RECORDS};
+pub use limits::{MAX_DEPTH, MAX_LIVE, MAX_READERS, MAX_RECORDS, MOST_RECORDS};
 pub use opened::Opened;
 pub use publisher::Publisher;
 pub use receipt::Receipt;

@@ -52,13 +52,14 @@ fn push<L: LogName, R: Wait>(
     message: Message,
 ) -> Result<u64, AllocError>
     requires message { FitsMessage message }
-    requires fits { end_of FIRST_POSITION log.old + 2 ^ 14 < 2 ^ 64 }
+    requires fits { end_of FIRST_POSITION log.old.records + 2 ^ 14 < 2 ^ 64 }
     requires good { IsWellFormedLog
-        (log.old ++ record_after log.old (Note (Change.Message message)) ∷ []) }
-    ensures start { IfOk result (λ start. start ≡ end_of FIRST_POSITION log.old) }
+        (log.old.records ++ record_after log.old.records (Note (Change.Message message)) ∷ []) }
+    ensures start { IfOk result (λ start. start ≡ end_of FIRST_POSITION log.old.records) }
     ensures ok { OnOk result
-        (log.new ≡ log.old ++ record_after log.old (Note (Change.Message message)) ∷ []) }
-    ensures err { OnErr result (log.new ≡ log.old) }
+        (log.new.records ≡ log.old.records ++ record_after log.old.records (Note (Change.Message message)) ∷ []) }
+    ensures err { OnErr result (log.new.records ≡ log.old.records) }
+    ensures given { log.new.given ≡ log.old.given }
 {
     let change = Change::Message(message);
     let logged = LoggedChange::of(alloc, &change);

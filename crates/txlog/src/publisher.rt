@@ -7,10 +7,10 @@ ghost use mathlib.Core.List.{IsPrefix};
 ghost use Rattle.shared_log.specs.Fronts.{settled_records};
 ghost use Rattle.txlog.specs.Invariants.{IsPublisher};
 ghost use Rattle.txlog.specs.Rows.{rows_of};
-ghost use Rattle.txlog.specs.Publishing.{RefusedOrMemory, RefusedOrMemoryBack, RefusedExactly, after_abort, after_commit, new_publisher, begin_refusal, after_begin, end_refusal, is_live, log_end, receipt_of, release_refusal, after_release, rollback_refusal, after_rollback, room, after_savepoint, savepoint_refusal, savepoints_of};
+ghost use Rattle.txlog.specs.Publishing.{RefusedOrMemory, RefusedOrMemoryBack, RefusedExactly, after_abort, after_commit, new_publisher, begin_refusal, after_begin, after_give_back, end_refusal, is_live, log_end, receipt_of, release_refusal, after_release, rollback_refusal, after_rollback, room, after_savepoint, savepoint_refusal, savepoints_of};
 
 use crate::fault::SessionFault;
-use crate::limits::{MAX_DEPTH, MAX_LIVE};
+use crate::limits::{MAX_DEPTH, MAX_LIVE, MOST_RECORDS};
 use crate::live::Live;
 use crate::opened::Opened;
 use crate::receipt::Receipt;
@@ -38,6 +38,7 @@ use wal::{Body, FIRST_XID};
 /// It isn't `Drop`: `close` ends it.
 pub struct Publisher<L: LogName> {
     pub(crate) store: Store,
+    /// How many records the log may have: as many more than lie in memory at once as may be given back.
     capacity: usize,
     pub(crate) log: LogWriter<L>,
     next_xid: u32,
@@ -53,7 +54,8 @@ impl<L: LogName> Model for Publisher<L> {
     ghost view = { λ p. record {
       tables = p.store.tables;
       capacity = p.capacity;
-      log = p.log;
+      log = p.log.records;
+      given = p.log.given;
       next_xid = p.next_xid;
       live = p.live;
     } };
@@ -61,7 +63,8 @@ impl<L: LogName> Model for Publisher<L> {
     ghost invariant = { λ p. KeepsLog p.store (record {
       tables = p.store.tables;
       capacity = p.capacity;
-      log = p.log;
+      log = p.log.records;
+      given = p.log.given;
       next_xid = p.next_xid;
       live = p.live;
     }) };
@@ -138,6 +141,18 @@ impl<L: LogName> Publisher<L> {
         ensures publisher { IsPublisher self.new }
     {
         self.log.tell(reader)
+    }
+
+    /// Lets the records before a place be given back, but for those from the oldest of a transaction in progress on, so that the log
+    /// has room for as many more. A reader that asks for one that was given back is told so.
+    pub fn give_back(&mut self, up_to: usize)
+        ensures given { self.new ≡ after_give_back up_to self.old }
+        ensures publisher { IsPublisher self.new }
+    {
+        let before = self.log.given();
+        self.log.give_back(up_to);
+        let more = self.log.given() - before;
+        self.capacity = MOST_RECORDS.min(self.capacity + more);
     }
 
     /// The row with this key, committed or not. The key's values stand in table order.

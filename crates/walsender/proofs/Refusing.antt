@@ -22,23 +22,32 @@ unfetched : (e : ReadFault) → has_fetched (Err (fault_of_fetch e)) ≡ false
 unfetched reads.NoEntry = refl
 unfetched reads.Stale = refl
 unfetched reads.Memory = refl
+unfetched reads.Removed = refl
 
 unwritten : (e : ReadFault) → has_written (Err (fault_of_fetch e)) ≡ false
 unwritten reads.NoEntry = refl
 unwritten reads.Stale = refl
 unwritten reads.Memory = refl
+unwritten reads.Removed = refl
 
 -- no two faults of a fetch are told alike
 same_fault : (a b : ReadFault) → fault_of_fetch a ≡ fault_of_fetch b → a ≡ b
 same_fault reads.NoEntry reads.NoEntry is = refl
 same_fault reads.NoEntry reads.Stale is = cc
 same_fault reads.NoEntry reads.Memory is = cc
+same_fault reads.NoEntry reads.Removed is = cc
 same_fault reads.Stale reads.NoEntry is = cc
 same_fault reads.Stale reads.Stale is = refl
 same_fault reads.Stale reads.Memory is = cc
+same_fault reads.Stale reads.Removed is = cc
 same_fault reads.Memory reads.NoEntry is = cc
 same_fault reads.Memory reads.Stale is = cc
 same_fault reads.Memory reads.Memory is = refl
+same_fault reads.Memory reads.Removed is = cc
+same_fault reads.Removed reads.NoEntry is = cc
+same_fault reads.Removed reads.Stale is = cc
+same_fault reads.Removed reads.Memory is = cc
+same_fault reads.Removed reads.Removed is = refl
 
 pub apart : (b : Bool) → b ≡ true → b ≡ false → ⊥
 apart b holds lacks = false≢true (sym lacks ∙ holds)

@@ -99,3 +99,5 @@ turned clock old new place moved_to early seen before after (Err turns.NoEntry) 
     silent place moved_to early seen old new before after (t.silent refl) (stays place moved_to early seen old new begins (t.unfetched refl))
 turned clock old new place moved_to early seen before after (Err turns.Stale) fits begins t =
     silent place moved_to early seen old new before after (t.silent refl) (stays place moved_to early seen old new begins (t.unfetched refl))
+turned clock old new place moved_to early seen before after (Err turns.Removed) fits begins t =
+    silent place moved_to early seen old new before after (t.silent refl) (stays place moved_to early seen old new begins (t.unfetched refl))

@@ -10,6 +10,7 @@ abbrev pub fault_of_fetch : ReadFault → TurnFault
 fault_of_fetch reads.NoEntry = turns.NoEntry
 fault_of_fetch reads.Stale = turns.Stale
 fault_of_fetch reads.Memory = turns.Memory
+fault_of_fetch reads.Removed = turns.Removed
 
 -- the reader moved on
 abbrev pub has_fetched : Result ℕ TurnFault → Bool
@@ -17,6 +18,7 @@ has_fetched (Ok count) = true
 has_fetched (Err turns.Memory) = false
 has_fetched (Err turns.NoEntry) = false
 has_fetched (Err turns.Stale) = false
+has_fetched (Err turns.Removed) = false
 has_fetched (Err fault) = true
 
 -- the writer was asked to take bytes

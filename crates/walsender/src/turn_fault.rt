@@ -1,4 +1,4 @@
-//! Why a turn failed: U1 to U4.
+//! Why a turn failed: U1 to U5.
 
 ghost use Rattle.std.specs.Prelude.{◌≡◌};
 ghost use Rattle.walsender.specs.Faults.{fault_of_fetch};
@@ -27,6 +27,9 @@ pub enum TurnFault {
     /// The reader stays where it is. Nobody meets it, as E1 of what was learnt.
     #[error("U4: the log lacks what was learnt of")]
     Stale,
+    /// The reader stays where it is, before the records that lie in memory.
+    #[error("U5: the log's records there have been removed")]
+    Removed,
 }
 
 impl From<ReadFault> for TurnFault {
@@ -37,6 +40,7 @@ impl From<ReadFault> for TurnFault {
             ReadFault::NoEntry => TurnFault::NoEntry,
             ReadFault::Stale => TurnFault::Stale,
             ReadFault::Memory => TurnFault::Memory,
+            ReadFault::Removed => TurnFault::Removed,
         }
     }
 }

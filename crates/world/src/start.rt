@@ -227,7 +227,8 @@ fn fault_of(fault: ReadFault) -> WorldFault
     ensures memory { result ≡ WorldFault.Memory → fault ≡ ReadFault.Memory }
 {
     match fault {
-        ReadFault::NoEntry | ReadFault::Stale => WorldFault::NoEntry,
+        // No line gives records back, so nobody meets `Removed`.
+        ReadFault::NoEntry | ReadFault::Stale | ReadFault::Removed => WorldFault::NoEntry,
         ReadFault::Memory => WorldFault::Memory,
     }
 }

@@ -5,4 +5,4 @@ use Rattle.txlog.proofs.noting.push.Goals as goal
 
 pub push_note-requires-clause-fits : goal.push_note-requires-clause-fits
 push_note-requires-clause-fits g c =
-    change_fits c.args.log.now 0 (changes.Message c.args.message) c.in_ok-logged.field-0 (short_message c.args.message c.requires.message) c.requires.fits c.in_ok-logged.ensures
+    change_fits c.args.log.now.records 0 (changes.Message c.args.message) c.in_ok-logged.field-0 (short_message c.args.message c.requires.message) c.requires.fits c.in_ok-logged.ensures

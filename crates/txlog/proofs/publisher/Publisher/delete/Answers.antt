@@ -10,7 +10,7 @@ use Rattle.txlog.proofs.publisher.Publisher.delete.Goals as goal
 
 pub write-requires : goal.write-requires
 write-requires g c =
-    let s : PublisherState = record { tables = c.self.inside.store.tables; capacity = c.self.inside.capacity; log = c.self.inside.log; next_xid = c.self.inside.next_xid; live = c.self.inside.live } in
+    let s : PublisherState = record { tables = c.self.inside.store.tables; capacity = c.self.inside.capacity; log = c.self.inside.log.records; given = c.self.inside.log.given; next_xid = c.self.inside.next_xid; live = c.self.inside.live } in
     let fits = c.in-Ok.ensures.fits (history_of s.log) c.self.invariant.rows in
     let made_so = c.in-Ok.ensures.change (history_of s.log) c.self.invariant.rows in
     let at = c.in_ok-at.ensures in
@@ -25,26 +25,27 @@ write-requires g c =
 
 pub invariant_of-self : goal.invariant_of-self
 invariant_of-self g c =
-    let s : PublisherState = record { tables = c.self.inside.store.tables; capacity = c.self.inside.capacity; log = c.self.inside.log; next_xid = c.self.inside.next_xid; live = c.self.inside.live } in
+    let s : PublisherState = record { tables = c.self.inside.store.tables; capacity = c.self.inside.capacity; log = c.self.inside.log.records; given = c.self.inside.log.given; next_xid = c.self.inside.next_xid; live = c.self.inside.live } in
     let fits = c.in-Ok.ensures.fits (history_of s.log) c.self.invariant.rows in
     let made_so = c.in-Ok.ensures.change (history_of s.log) c.self.invariant.rows in
     let at = c.in_ok-at.ensures in
     let w = c.write.ensures in
-    change_written c.self.inside.store c.delete.new.self c.write.new.store s c.args.self.now c.args.tx.now c.in_ok-at.at c.in-Ok.change c.write.new.log c.write.result c.self.view_is c.self.invariant
+    rw c.write.ensures.given
+    (change_written c.self.inside.store c.delete.new.self c.write.new.store s c.args.self.now c.args.tx.now c.in_ok-at.at c.in-Ok.change c.write.new.log.records c.write.result c.self.view_is c.self.invariant
     at.live at.innermost at.mark at.room fits (delete_short s.tables c.in-Ok.change c.args.oid made_so.old made_so.made fits)
-    (c.in-Ok.ensures.ok (history_of s.log) c.self.invariant.rows) c.in-Ok.ensures.tables w.ok w.room w.err w.undone w.tables
+    (c.in-Ok.ensures.ok (history_of s.log) c.self.invariant.rows) c.in-Ok.ensures.tables w.ok w.room w.err w.undone w.tables)
 
 pub returns-in-Ok-clause-publisher : goal.returns-in-Ok-clause-publisher
 returns-in-Ok-clause-publisher g c = (invariant_of-self g c).publisher
 
 pub returns-in-Ok-clause-refused : goal.returns-in-Ok-clause-refused
 returns-in-Ok-clause-refused g c =
-    let s : PublisherState = record { tables = c.self.inside.store.tables; capacity = c.self.inside.capacity; log = c.self.inside.log; next_xid = c.self.inside.next_xid; live = c.self.inside.live } in
+    let s : PublisherState = record { tables = c.self.inside.store.tables; capacity = c.self.inside.capacity; log = c.self.inside.log.records; given = c.self.inside.log.given; next_xid = c.self.inside.next_xid; live = c.self.inside.live } in
     ok_refused (λ p x. history.delete_refusal p.tables (history_of p.log) x (record { oid = c.args.oid; values = c.args.key.now })) s c.args.self.now c.args.tx.now c.in_ok-at.at c.write.result c.self.view_is
     c.in_ok-at.ensures.live c.in_ok-at.ensures.room (c.in-Ok.ensures.refused (history_of s.log) c.self.invariant.rows) c.write.ensures.room c.write.ensures.refused
 
 pub returns-in-Err-clause-refused : goal.returns-in-Err-clause-refused
 returns-in-Err-clause-refused g c =
-    let s : PublisherState = record { tables = c.self.inside.store.tables; capacity = c.self.inside.capacity; log = c.self.inside.log; next_xid = c.self.inside.next_xid; live = c.self.inside.live } in
+    let s : PublisherState = record { tables = c.self.inside.store.tables; capacity = c.self.inside.capacity; log = c.self.inside.log.records; given = c.self.inside.log.given; next_xid = c.self.inside.next_xid; live = c.self.inside.live } in
     err_refused (λ p x. history.delete_refusal p.tables (history_of p.log) x (record { oid = c.args.oid; values = c.args.key.now })) s c.args.self.now c.args.tx.now c.in_ok-at.at c.in-Err.fault c.refusal.result c.self.view_is
     c.in_ok-at.ensures.live c.in_ok-at.ensures.room (c.in-Err.ensures.refused (history_of s.log) c.self.invariant.rows) c.refusal.ensures

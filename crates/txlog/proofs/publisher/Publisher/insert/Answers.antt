@@ -13,7 +13,7 @@ use Rattle.txlog.proofs.publisher.Publisher.insert.Goals as goal
 
 pub write-requires : goal.write-requires
 write-requires g c =
-    let s : PublisherState = record { tables = c.self.inside.store.tables; capacity = c.self.inside.capacity; log = c.self.inside.log; next_xid = c.self.inside.next_xid; live = c.self.inside.live } in
+    let s : PublisherState = record { tables = c.self.inside.store.tables; capacity = c.self.inside.capacity; log = c.self.inside.log.records; given = c.self.inside.log.given; next_xid = c.self.inside.next_xid; live = c.self.inside.live } in
     let at = c.in_ok-at.ensures in
     let short = insert_short s.tables c.in-Ok.change c.args.oid c.args.row c.in-Ok.ensures.change c.in-Ok.ensures.fits in
     record {
@@ -26,24 +26,25 @@ write-requires g c =
 
 pub invariant_of-self : goal.invariant_of-self
 invariant_of-self g c =
-    let s : PublisherState = record { tables = c.self.inside.store.tables; capacity = c.self.inside.capacity; log = c.self.inside.log; next_xid = c.self.inside.next_xid; live = c.self.inside.live } in
+    let s : PublisherState = record { tables = c.self.inside.store.tables; capacity = c.self.inside.capacity; log = c.self.inside.log.records; given = c.self.inside.log.given; next_xid = c.self.inside.next_xid; live = c.self.inside.live } in
     let at = c.in_ok-at.ensures in
     let w = c.write.ensures in
-    change_written c.self.inside.store c.insert.new.self c.write.new.store s c.args.self.now c.args.tx.now c.in_ok-at.at c.in-Ok.change c.write.new.log c.write.result c.self.view_is c.self.invariant
+    rw c.write.ensures.given
+    (change_written c.self.inside.store c.insert.new.self c.write.new.store s c.args.self.now c.args.tx.now c.in_ok-at.at c.in-Ok.change c.write.new.log.records c.write.result c.self.view_is c.self.invariant
     at.live at.innermost at.mark at.room c.in-Ok.ensures.fits (insert_short s.tables c.in-Ok.change c.args.oid c.args.row c.in-Ok.ensures.change c.in-Ok.ensures.fits)
-    (subst (λ (d : Change). Keeps c.insert.new.self (history_of s.log ++ change_made c.in_ok-at.at.xid d ∷ [])) (sym c.in-Ok.ensures.change) (c.in-Ok.ensures.ok (history_of s.log) c.self.invariant.rows)) c.in-Ok.ensures.tables w.ok w.room w.err w.undone w.tables
+    (subst (λ (d : Change). Keeps c.insert.new.self (history_of s.log ++ change_made c.in_ok-at.at.xid d ∷ [])) (sym c.in-Ok.ensures.change) (c.in-Ok.ensures.ok (history_of s.log) c.self.invariant.rows)) c.in-Ok.ensures.tables w.ok w.room w.err w.undone w.tables)
 
 pub returns-in-Ok-clause-publisher : goal.returns-in-Ok-clause-publisher
 returns-in-Ok-clause-publisher g c = (invariant_of-self g c).publisher
 
 pub returns-in-Ok-clause-refused : goal.returns-in-Ok-clause-refused
 returns-in-Ok-clause-refused g c =
-    let s : PublisherState = record { tables = c.self.inside.store.tables; capacity = c.self.inside.capacity; log = c.self.inside.log; next_xid = c.self.inside.next_xid; live = c.self.inside.live } in
+    let s : PublisherState = record { tables = c.self.inside.store.tables; capacity = c.self.inside.capacity; log = c.self.inside.log.records; given = c.self.inside.log.given; next_xid = c.self.inside.next_xid; live = c.self.inside.live } in
     ok_refused (λ p x. history.insert_refusal p.tables (history_of p.log) x c.args.oid c.args.row) s c.args.self.now c.args.tx.now c.in_ok-at.at c.write.result c.self.view_is
     c.in_ok-at.ensures.live c.in_ok-at.ensures.room (c.in-Ok.ensures.refused (history_of s.log) c.self.invariant.rows) c.write.ensures.room c.write.ensures.refused
 
 pub returns-in-Err-clause-refused : goal.returns-in-Err-clause-refused
 returns-in-Err-clause-refused g c =
-    let s : PublisherState = record { tables = c.self.inside.store.tables; capacity = c.self.inside.capacity; log = c.self.inside.log; next_xid = c.self.inside.next_xid; live = c.self.inside.live } in
+    let s : PublisherState = record { tables = c.self.inside.store.tables; capacity = c.self.inside.capacity; log = c.self.inside.log.records; given = c.self.inside.log.given; next_xid = c.self.inside.next_xid; live = c.self.inside.live } in
     err_refused (λ p x. history.insert_refusal p.tables (history_of p.log) x c.args.oid c.args.row) s c.args.self.now c.args.tx.now c.in_ok-at.at c.in-Err.fault c.refusal.result c.self.view_is
     c.in_ok-at.ensures.live c.in_ok-at.ensures.room (c.in-Err.ensures.refused (history_of s.log) c.self.invariant.rows) c.refusal.ensures
