@@ -78,6 +78,21 @@ impl Arena {
         self.links.free()
     }
 
+    /// Whether the last chunk of a strand of this arena has room for an entry of this length.
+    pub fn has_room_for(&self, strand: &Strand, length: usize) -> bool
+        requires of { IsOf self.now strand.now }
+        requires fits { length ≤ 16380 }
+        ensures { result ≡ has_room (entries_of self.now strand.now) length }
+    {
+        match strand.head {
+            Some(head) => {
+                let left = self.pages.left(self.links.last(head));
+                left >= length + 4
+            }
+            None => false,
+        }
+    }
+
     /// A strand without entries, which has no chunk yet.
     pub fn strand(&self) -> Strand
         ensures { result ≡ None }

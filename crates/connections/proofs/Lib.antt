@@ -1,3 +1,4 @@
 pub mod Crossing
 pub mod Dropping
+pub mod Naming
 pub mod Writing

@@ -1,4 +1,5 @@
 pub mod Crowds
 pub mod Inboxes
+pub mod Names
 pub mod Reins
 pub mod Troubles

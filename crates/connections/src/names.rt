@@ -1,12 +1,12 @@
 //! The names of slots, and the seat by which slots are made and dropped.
 
-ghost use Rattle.std.specs.Prelude.{◌≡◌, ℕ, ◌<◌, Err, None, Some, IfSome, IsSome, OnErr, OnOk};
+ghost use Rattle.std.specs.Prelude.{◌≡◌, ℕ, ◌<◌, None, Some, IfErr, IfSome, OnErr, OnOk};
 ghost use Rattle.slots.specs.Directories.{AreSame, ChangesOnly, place_of};
-ghost use Rattle.slots.specs.Seats.{Created, Did, NoneLeft};
-ghost use Rattle.slots.specs.declared.step.View.{View};
+ghost use Rattle.slots.specs.Seats.{Created, Did};
 ghost use Rattle.slots.specs.declared.step.SlotKind.TheVariants.{Retire};
+ghost use Rattle.connections.specs.Names.{AreInTable, IsNoDrop, IsNoNewSlot};
 
-use slots::{Directory, PLACES, SlotFault, SlotName, SlotSeat, SlotTable};
+use slots::{Directory, SlotFault, SlotName, SlotSeat, SlotTable};
 use std::alloc::Global;
 
 /// The slots by name, with a seat that makes and drops them.
@@ -14,6 +14,7 @@ use std::alloc::Global;
 pub struct Names<L: SlotName> {
     directory: Directory,
     seat: SlotSeat<L>,
+    ghost in_table: { AreInTable directory },
 }
 
 impl<L: SlotName> Names<L> {
@@ -24,15 +25,12 @@ impl<L: SlotName> Names<L> {
         }
     }
 
-    /// The place of the slot of this name.
+    /// The place of the slot of this name, one of 16.
     pub fn place_of(&self, name: &str) -> Option<usize>
-        ensures named { IfSome result (λ place. place_of self.now.directory name.now ≡ Some place) }
+        ensures named { result ≡ place_of self.now.directory name.now }
         ensures inside { IfSome result (λ place. place < 16) }
     {
-        match self.directory.find(name) {
-            Some(place) if place < PLACES => Some(place),
-            _ => None,
-        }
+        self.directory.find(name)
     }
 
     /// Makes a slot of a new name, which is free, with this position confirmed. L3 where the name is there, then L4, then L5,
@@ -44,17 +42,12 @@ impl<L: SlotName> Names<L> {
         position: u64,
     ) -> Result<(), SlotFault>
         ensures new { OnOk result (place_of self.old.directory name.now ≡ None) }
-        ensures exists { result ≡ Err SlotFault.Exists →
-            IsSome (place_of self.old.directory name.now) }
         ensures ok { OnOk result
             ((place : ℕ) × Created self.old.seat position place self.new.seat
             × ChangesOnly self.old.directory self.new.directory name.now (Some place)) }
         ensures err { OnErr result (AreSame self.old.directory self.new.directory) }
-        ensures untouched { result ≡ Err SlotFault.Exists → self.new.seat ≡ self.old.seat }
-        ensures full { result ≡ Err SlotFault.NoPlace → NoneLeft self.old.seat self.new.seat }
-        ensures dropped { result ≡ Err SlotFault.Memory →
-            (place found left : ℕ) × (made : View) × Created self.old.seat position place made
-            × Did Retire place found left made self.new.seat }
+        ensures fault { IfErr result (λ fault. IsNoNewSlot fault
+            (place_of self.old.directory name.now) position self.old.seat self.new.seat) }
     {
         if self.directory.find(name).is_some() {
             return Err(SlotFault::Exists);
@@ -74,6 +67,8 @@ impl<L: SlotName> Names<L> {
             × Did Retire place 1 2 self.old.seat self.new.seat
             × ChangesOnly self.old.directory self.new.directory name.now None) }
         ensures err { OnErr result (AreSame self.old.directory self.new.directory) }
+        ensures fault { IfErr result (λ fault. IsNoDrop fault
+            (place_of self.old.directory name.now) self.old.seat self.new.seat) }
     {
         let place = self.place_of(name).ok_or(SlotFault::Missing)?;
         slots.drop_slot(&mut self.seat, place)?;

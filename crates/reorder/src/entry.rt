@@ -1,8 +1,8 @@
 //! How a change lies in the arena.
 
-ghost use Rattle.std.specs.Prelude.{◌≡◌, ◌≤◌, ◌<◌, ◌^◌, OnOk, length};
+ghost use Rattle.std.specs.Prelude.{◌≡◌, ◌+◌, ◌≤◌, ◌<◌, ◌^◌, OnOk, length};
 ghost use Rattle.tables.specs.Reading.{IsCoded};
-ghost use Rattle.tables.specs.Spelling.{IsShort};
+ghost use Rattle.tables.specs.Spelling.{IsShort, body_length};
 ghost use Rattle.reorder.specs.Entries.{IsEntry, body_in, coded_entry, position_in};
 
 use bytes::{BufMut, BytesMut};
@@ -11,6 +11,14 @@ use wal::LoggedChange;
 
 /// How many bytes the position has that an entry begins with.
 const POSITION_LENGTH: usize = 8;
+
+/// How long the entry of a change is.
+pub(crate) fn entry_len(change: &LoggedChange) -> usize
+    ensures value { result ≡ 8 + body_length change.now }
+    ensures fits { result ≤ 16380 }
+{
+    POSITION_LENGTH + change.body_len()
+}
 
 /// Writes the entry of a change at a position into a buffer, in the place of what it holds.
 #[tactic(auto, unfolding(pqformat::specs::Fields::int64))]

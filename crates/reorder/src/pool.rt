@@ -1,6 +1,6 @@
 //! The entries of each xid, in an arena.
 
-ghost use Rattle.std.specs.Prelude.{◌≡◌, ◌≢◌, Err, None, Some, ℕ, false, ◌+◌, ◌<◌, ◌≤◌, ◌++◌, ◌∷◌, [], get_or, length, IfOk, IsOk, IsSome, OnErr, OnOk, if◌then◌else◌};
+ghost use Rattle.std.specs.Prelude.{◌≡◌, ◌≢◌, Err, None, Some, ℕ, false, ◌+◌, ◌<◌, ◌≤◌, ◌++◌, ◌∷◌, [], get_or, length, IfOk, IsOk, IsSome, MatchBool, OnErr, OnOk, if◌then◌else◌};
 ghost use Rattle.std.specs.List.{AllByRecursion};
 ghost use Rattle.reorder.specs.Entries.{IsEntry};
 ghost use Rattle.chgarena.specs.Strands.{IsOf, arena_without, fills, has_room};
@@ -53,6 +53,23 @@ impl Pool {
         ensures hold { HoldEntries self.now.arena self.now.strands }
     {
         self.arena.free()
+    }
+
+    /// Whether there is no room for one more entry of this length of an xid.
+    pub(crate) fn is_full_for(&self, xid: u32, length: usize) -> bool
+        requires { length ≤ 16380 }
+        ensures room { MatchBool result (HasNoRoom self.now xid length)
+            (HasNoRoom self.now xid length → ⊥) }
+        ensures pool { IsPool self.now.arena self.now.strands }
+        ensures hold { HoldEntries self.now.arena self.now.strands }
+    {
+        if self.arena.free() > 0 {
+            return false;
+        }
+        match self.strands.get(&xid) {
+            Some(strand) => !self.arena.has_room_for(strand, length),
+            None => true,
+        }
     }
 
     /// Adds an entry to those of an xid.

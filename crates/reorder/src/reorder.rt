@@ -9,7 +9,7 @@ ghost use Rattle.reorder.specs.Ready.{IsEntryAt, IsReadyIn, ReadyState, ready_en
 ghost use Rattle.reorder.specs.Settled.{AreLentIn, FillsReady, LeavesNoRoomBeside, after_giving_all_back, after_giving_back, lent_chunks};
 ghost use Rattle.reorder.specs.Taking.{HasTaken, IsHeld, IsStepApart, IsStepHeld, IsSameTaken, MayCome, Takes, readied_changes};
 
-use crate::entry::{body_of, position_of, write_entry};
+use crate::entry::{body_of, entry_len, position_of, write_entry};
 use crate::fault::ReorderFault;
 use crate::ready::{Ready, Step};
 use crate::strands::Strands;
@@ -29,7 +29,8 @@ use wal::{Body, Record};
 /// The first record may be any record of a log. Of a transaction in progress there only the changes from this record on are
 /// known. A subtransaction of it that began earlier counts as a transaction of its own, which never commits.
 ///
-/// An error is the end: Q1 is a full arena, Q2 is want of memory, and every `take` after either is Q3.
+/// An error is the end: Q1 is a full arena, Q2 is want of memory, and every `take` after either is Q3. A change for which the arena
+/// has no room is Q1, whether or not there is memory.
 #[derive(Drop)]
 pub struct Reorder {
     strands: Strands,
@@ -94,6 +95,14 @@ impl Reorder {
             MayCome rs next.now.body → AreLentIn self.old ws →
             IsTidy count [] (after_giving_all_back self.old ws).strands →
             LeavesNoRoomBeside (lent_chunks self.old ws) count rs next.now }
+        ensures lacks { (rs : List Logged) (count : ℕ) → self.old.failed ≡ false → HasTaken self.old rs →
+            MayCome rs next.now.body → IsTidy count [] self.old.strands →
+            LeavesNoRoom count rs next.now → result ≡ Err ReorderFault.Full }
+        ensures lacks_beside { (rs : List Logged) (ws : List ReadyState) (count : ℕ) →
+            self.old.failed ≡ false → HasTaken self.old rs → MayCome rs next.now.body → AreLentIn self.old ws →
+            IsTidy count [] (after_giving_all_back self.old ws).strands →
+            LeavesNoRoomBeside (lent_chunks self.old ws) count rs next.now →
+            result ≡ Err ReorderFault.Full }
         ensures tidy { IfOk result
             (λ step. (count : ℕ) (held : List ReadyState) → IsTidy count held self.old.strands →
             IsTidy count (held_with held step) self.new.strands) }
@@ -129,6 +138,14 @@ impl Reorder {
             MayCome rs next.now.body → AreLentIn self.old ws →
             IsTidy count [] (after_giving_all_back self.old ws).strands →
             LeavesNoRoomBeside (lent_chunks self.old ws) count rs next.now }
+        ensures lacks { (rs : List Logged) (count : ℕ) → HasTaken self.old rs →
+            MayCome rs next.now.body → IsTidy count [] self.old.strands →
+            LeavesNoRoom count rs next.now → result ≡ Err ReorderFault.Full }
+        ensures lacks_beside { (rs : List Logged) (ws : List ReadyState) (count : ℕ) →
+            HasTaken self.old rs → MayCome rs next.now.body → AreLentIn self.old ws →
+            IsTidy count [] (after_giving_all_back self.old ws).strands →
+            LeavesNoRoomBeside (lent_chunks self.old ws) count rs next.now →
+            result ≡ Err ReorderFault.Full }
         ensures tidy { IfOk result
             (λ step. (count : ℕ) (held : List ReadyState) → IsTidy count held self.old.strands →
             IsTidy count (held_with held step) self.new.strands) }
@@ -147,6 +164,10 @@ impl Reorder {
                 self.strands.assign(*sub, *parent)?;
             }
             Body::Change(xid, change) => {
+                // Before memory is asked for, so that a full arena is never told as want of it.
+                if self.strands.is_full_for(*xid, entry_len(change)) {
+                    return Err(ReorderFault::Full);
+                }
                 self.strands.open(*xid)?;
                 write_entry(&mut self.scratch, next.start, change)?;
                 self.strands.push(*xid, self.scratch.as_slice())?;

@@ -3,7 +3,7 @@
 //! A record costs a look-up or two, whatever the length of the log. Only the end of a transaction goes over its xids,
 //! and then nothing of them is left but the changes that are ready.
 
-ghost use Rattle.std.specs.Prelude.{◌≡◌, ◌≢◌, ◌==◌, Err, Option, true, ℕ, ◌+◌, ◌<◌, ◌≤◌, slice_get, sum_by, [], ◌∷◌, List, Some, None, false, IsSome, IfOk, OnOk, length, nat_eq, reverse, if◌then◌else◌, ◌&&◌};
+ghost use Rattle.std.specs.Prelude.{◌≡◌, ◌≢◌, ◌==◌, Err, Option, true, ℕ, ◌+◌, ◌<◌, ◌≤◌, slice_get, sum_by, [], ◌∷◌, List, Some, None, false, IsSome, IfOk, MatchBool, OnOk, length, nat_eq, reverse, if◌then◌else◌, ◌&&◌};
 ghost use Rattle.std.specs.Map.{lookup};
 ghost use Rattle.std.specs.HashMap.{get};
 ghost use Rattle.std.specs.Option.{option_map};
@@ -75,6 +75,17 @@ impl Strands {
         ensures hold { HoldEntries self.now.pool.arena self.now.pool.strands }
     {
         self.pool.free()
+    }
+
+    /// Whether there is no room for one more entry of this length of an xid.
+    pub(crate) fn is_full_for(&self, xid: u32, length: usize) -> bool
+        requires { length ≤ 16380 }
+        ensures room { MatchBool result (HasNoRoom self.now.pool xid length)
+            (HasNoRoom self.now.pool xid length → ⊥) }
+        ensures pool { IsPool self.now.pool.arena self.now.pool.strands }
+        ensures hold { HoldEntries self.now.pool.arena self.now.pool.strands }
+    {
+        self.pool.is_full_for(xid, length)
     }
 
     /// Makes the xid a transaction, unless it has a strand.

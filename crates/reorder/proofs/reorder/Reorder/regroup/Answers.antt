@@ -16,10 +16,11 @@ use Rattle.reorder.proofs.Counting.{no_room_left}
 use Rattle.reorder.proofs.Filling.{chunks_lent, no_room_beside, tidy_settled}
 use Rattle.reorder.proofs.Opening.{Opened, opened}
 use Rattle.reorder.proofs.ReadyChunks.{commit_filled}
+use Rattle.reorder.proofs.Refusing.{never_alone, never_beside, refused_alone, refused_beside}
 use Rattle.reorder.proofs.Settling.{entries_lent}
 use Rattle.reorder.proofs.Steps.{state, taken_assign, taken_change, taken_rollback, taken_abort, taken_commit, taken_note}
 use Rattle.reorder.proofs.reorder.Reorder.regroup.Goals as goal
-use Rattle.reorder.proofs.reorder.Reorder.regroup.Goals.{in-Assign+in_ok-open-in-Assign+in_ok-assign-in-Assign, in-Change+in_ok-open-in-Change+in_ok-write_entry-in-Change+in_ok-push-in-Change, in-AbortSub, in-Abort, in-Note}
+use Rattle.reorder.proofs.reorder.Reorder.regroup.Goals.{in-Assign+in_ok-open-in-Assign+in_ok-assign-in-Assign, in-Change+else-is_full_for+in_ok-open-in-Change+in_ok-write_entry-in-Change+in_ok-push-in-Change, in-AbortSub, in-Abort, in-Note}
 
 carried : (s old after now : ReorderState) (r : Record) (ready : Option (List Entry)) → s ≡ old → now ≡ after → Takes s after r ready → Takes old now r ready
 carried s old after now r ready same same' taken =
@@ -32,7 +33,7 @@ returns-clause-takes c =
           carried (state c.self.inside.strands c.self.inside.failed) c.args.self.now (state w.assign.new.self c.self.inside.failed) c.match-next.self c.args.next.now None c.self.view_is w.self-is
           (taken_assign c.self.inside.strands w.open.new.self w.assign.new.self c.self.inside.failed c.self.inside.failed c.args.next.now w.in-Assign.sub w.in-Assign.parent
           w.in-Assign.is w.in_ok-open-in-Assign.ensures.known w.in_ok-open-in-Assign.ensures.fresh w.in_ok-assign-in-Assign.ensures.assigned)
-      | in-Change+in_ok-open-in-Change+in_ok-write_entry-in-Change+in_ok-push-in-Change w ↦
+      | in-Change+else-is_full_for+in_ok-open-in-Change+in_ok-write_entry-in-Change+in_ok-push-in-Change w ↦
           carried (state c.self.inside.strands c.self.inside.failed) c.args.self.now (state w.push.new.self c.self.inside.failed) c.match-next.self c.args.next.now None c.self.view_is w.self-is
           (taken_change c.self.inside.strands w.open-in-Change.new.self w.push.new.self c.self.inside.failed c.self.inside.failed c.args.next.now w.in-Change.xid w.in-Change.change
           w.in-Change.is w.in_ok-open-in-Change.ensures.known w.in_ok-open-in-Change.ensures.fresh
@@ -93,7 +94,7 @@ returns-clause-tidy c = λ count held tidy.
     elim c.match-next.branch [
       | in-Assign+in_ok-open-in-Assign+in_ok-assign-in-Assign w ↦
           subst (λ (s : ReorderState). IsTidy count held s.strands) (sym w.self-is) (w.in_ok-assign-in-Assign.ensures.tidy count held (w.in_ok-open-in-Assign.ensures.tidy count held before))
-      | in-Change+in_ok-open-in-Change+in_ok-write_entry-in-Change+in_ok-push-in-Change w ↦
+      | in-Change+else-is_full_for+in_ok-open-in-Change+in_ok-write_entry-in-Change+in_ok-push-in-Change w ↦
           subst (λ (s : ReorderState). IsTidy count held s.strands) (sym w.self-is) (w.in_ok-push-in-Change.ensures.tidy w.in_ok-open-in-Change.ensures.there count held (w.in_ok-open-in-Change.ensures.tidy count held before))
       | in-AbortSub w ↦ subst (λ (s : ReorderState). IsTidy count held s.strands) (sym w.self-is) (w.undo.ensures.tidy count held before)
       | in-Abort w ↦ subst (λ (s : ReorderState). IsTidy count held s.strands) (sym w.self-is) (w.end.ensures.tidy count held before)
@@ -116,7 +117,7 @@ returns-clause-lent c =
       | in-Assign+in_ok-open-in-Assign+in_ok-assign-in-Assign w ↦
           subst (λ (s : ReorderState). StaysLent s.strands.pool c.match-next.self.strands.pool) c.self.view_is (subst (λ (s : ReorderState). StaysLent c.self.inside.strands.pool s.strands.pool) (sym w.self-is)
           (stays_lent c.self.inside.strands.pool w.open.new.self.pool w.assign.new.self.pool w.open.ensures.lent w.assign.ensures.lent))
-      | in-Change+in_ok-open-in-Change+in_ok-write_entry-in-Change+in_ok-push-in-Change w ↦
+      | in-Change+else-is_full_for+in_ok-open-in-Change+in_ok-write_entry-in-Change+in_ok-push-in-Change w ↦
           subst (λ (s : ReorderState). StaysLent s.strands.pool c.match-next.self.strands.pool) c.self.view_is (subst (λ (s : ReorderState). StaysLent c.self.inside.strands.pool s.strands.pool) (sym w.self-is)
           (stays_lent c.self.inside.strands.pool w.open-in-Change.new.self.pool w.push.new.self.pool w.open-in-Change.ensures.lent w.push.ensures.lent))
       | in-AbortSub w ↦
@@ -124,4 +125,73 @@ returns-clause-lent c =
       | in-Abort w ↦
           subst (λ (s : ReorderState). StaysLent s.strands.pool c.match-next.self.strands.pool) c.self.view_is (subst (λ (s : ReorderState). StaysLent c.self.inside.strands.pool s.strands.pool) (sym w.self-is) w.end.ensures.lent)
       | in-Note w ↦ subst (λ (s : ReorderState). StaysLent c.args.self.now.strands.pool s.strands.pool) (sym w.self-is) (stays_itself c.args.self.now.strands.pool)
+    ]
+
+pub returns-then-is_full_for-clause-full : goal.returns-then-is_full_for-clause-full
+returns-then-is_full_for-clause-full c = λ is rs count taken next tidy.
+    let body : IsOpen rs c.in-Change.xid = subst (λ (b : Body). MayCome rs b) c.in-Change.is next in
+    let before : IsBookkeeping (by_xid c.self.inside.strands) rs = subst (λ (s : ReorderState). IsBookkeeping (by_xid s.strands) rs) (sym c.self.view_is) taken.ready in
+    refused_alone (state c.self.inside.strands c.self.inside.failed) rs c.args.next.now c.in-Change.xid c.entry_len.result c.in-Change.change c.in-Change.is c.entry_len.ensures.value before.strands body count
+    (subst (λ (s : ReorderState). IsTidy count [] s.strands) (sym c.self.view_is) tidy) (rw c.if-is_full_for.true at c.is_full_for.ensures.room)
+
+pub returns-then-is_full_for-clause-full_beside : goal.returns-then-is_full_for-clause-full_beside
+returns-then-is_full_for-clause-full_beside c = λ is rs ws count taken next are tidy.
+    let body : IsOpen rs c.in-Change.xid = subst (λ (b : Body). MayCome rs b) c.in-Change.is next in
+    let before : IsBookkeeping (by_xid c.self.inside.strands) rs = subst (λ (s : ReorderState). IsBookkeeping (by_xid s.strands) rs) (sym c.self.view_is) taken.ready in
+    subst (λ (s : ReorderState). LeavesNoRoomBeside (lent_chunks s ws) count rs c.args.next.now) c.self.view_is
+    (refused_beside (state c.self.inside.strands c.self.inside.failed) rs c.args.next.now c.in-Change.xid c.entry_len.result c.in-Change.change c.in-Change.is c.entry_len.ensures.value before.strands body ws count
+    (subst (λ (s : ReorderState). AreLentIn s ws) (sym c.self.view_is) are) (subst (λ (s : ReorderState). IsTidy count [] (after_giving_all_back s ws).strands) (sym c.self.view_is) tidy) (rw c.if-is_full_for.true at c.is_full_for.ensures.room))
+
+pub returns-in_err-open-in-Change-clause-lacks : goal.returns-in_err-open-in-Change-clause-lacks
+returns-in_err-open-in-Change-clause-lacks c = λ rs count taken next tidy lacks.
+    absurd (never_alone (state c.self.inside.strands c.self.inside.failed) c.args.self.now c.self.view_is rs c.args.next.now c.in-Change.xid c.entry_len.result c.in-Change.change c.in-Change.is c.entry_len.ensures.value
+    c.is_full_for.ensures.pool c.is_full_for.ensures.hold (rw c.if-is_full_for.false at c.is_full_for.ensures.room) taken next count tidy lacks)
+
+pub returns-in_err-open-in-Change-clause-lacks_beside : goal.returns-in_err-open-in-Change-clause-lacks_beside
+returns-in_err-open-in-Change-clause-lacks_beside c = λ rs ws count taken next are tidy lacks.
+    absurd (never_beside (state c.self.inside.strands c.self.inside.failed) c.args.self.now c.self.view_is rs c.args.next.now c.in-Change.xid c.entry_len.result c.in-Change.change c.in-Change.is c.entry_len.ensures.value
+    c.is_full_for.ensures.pool c.is_full_for.ensures.hold (rw c.if-is_full_for.false at c.is_full_for.ensures.room) taken next ws count are tidy lacks)
+
+pub returns-in_err-write_entry-in-Change-clause-lacks : goal.returns-in_err-write_entry-in-Change-clause-lacks
+returns-in_err-write_entry-in-Change-clause-lacks c = λ rs count taken next tidy lacks.
+    absurd (never_alone (state c.self.inside.strands c.self.inside.failed) c.args.self.now c.self.view_is rs c.args.next.now c.in-Change.xid c.entry_len.result c.in-Change.change c.in-Change.is c.entry_len.ensures.value
+    c.is_full_for.ensures.pool c.is_full_for.ensures.hold (rw c.if-is_full_for.false at c.is_full_for.ensures.room) taken next count tidy lacks)
+
+pub returns-in_err-write_entry-in-Change-clause-lacks_beside : goal.returns-in_err-write_entry-in-Change-clause-lacks_beside
+returns-in_err-write_entry-in-Change-clause-lacks_beside c = λ rs ws count taken next are tidy lacks.
+    absurd (never_beside (state c.self.inside.strands c.self.inside.failed) c.args.self.now c.self.view_is rs c.args.next.now c.in-Change.xid c.entry_len.result c.in-Change.change c.in-Change.is c.entry_len.ensures.value
+    c.is_full_for.ensures.pool c.is_full_for.ensures.hold (rw c.if-is_full_for.false at c.is_full_for.ensures.room) taken next ws count are tidy lacks)
+
+pub returns-in_err-push-in-Change-clause-lacks : goal.returns-in_err-push-in-Change-clause-lacks
+returns-in_err-push-in-Change-clause-lacks c = λ rs count taken next tidy lacks.
+    absurd (never_alone (state c.self.inside.strands c.self.inside.failed) c.args.self.now c.self.view_is rs c.args.next.now c.in-Change.xid c.entry_len.result c.in-Change.change c.in-Change.is c.entry_len.ensures.value
+    c.is_full_for.ensures.pool c.is_full_for.ensures.hold (rw c.if-is_full_for.false at c.is_full_for.ensures.room) taken next count tidy lacks)
+
+pub returns-in_err-push-in-Change-clause-lacks_beside : goal.returns-in_err-push-in-Change-clause-lacks_beside
+returns-in_err-push-in-Change-clause-lacks_beside c = λ rs ws count taken next are tidy lacks.
+    absurd (never_beside (state c.self.inside.strands c.self.inside.failed) c.args.self.now c.self.view_is rs c.args.next.now c.in-Change.xid c.entry_len.result c.in-Change.change c.in-Change.is c.entry_len.ensures.value
+    c.is_full_for.ensures.pool c.is_full_for.ensures.hold (rw c.if-is_full_for.false at c.is_full_for.ensures.room) taken next ws count are tidy lacks)
+
+pub returns-clause-lacks : goal.returns-clause-lacks
+returns-clause-lacks c =
+    elim c.match-next.branch [
+      | in-Assign+in_ok-open-in-Assign+in_ok-assign-in-Assign w ↦ λ rs count taken next tidy lacks. let is = sym w.in-Assign.is ∙ lacks.is in absurd cc
+      | in-Change+else-is_full_for+in_ok-open-in-Change+in_ok-write_entry-in-Change+in_ok-push-in-Change w ↦ λ rs count taken next tidy lacks.
+          absurd (never_alone (state c.self.inside.strands c.self.inside.failed) c.args.self.now c.self.view_is rs c.args.next.now w.in-Change.xid w.entry_len.result w.in-Change.change w.in-Change.is w.entry_len.ensures.value
+          w.is_full_for.ensures.pool w.is_full_for.ensures.hold (rw w.if-is_full_for.false at w.is_full_for.ensures.room) taken next count tidy lacks)
+      | in-AbortSub w ↦ λ rs count taken next tidy lacks. let is = sym w.in-AbortSub.is ∙ lacks.is in absurd cc
+      | in-Abort w ↦ λ rs count taken next tidy lacks. let is = sym w.in-Abort.is ∙ lacks.is in absurd cc
+      | in-Note w ↦ λ rs count taken next tidy lacks. let is = sym w.in-Note.is ∙ lacks.is in absurd cc
+    ]
+
+pub returns-clause-lacks_beside : goal.returns-clause-lacks_beside
+returns-clause-lacks_beside c =
+    elim c.match-next.branch [
+      | in-Assign+in_ok-open-in-Assign+in_ok-assign-in-Assign w ↦ λ rs ws count taken next are tidy lacks. let is = sym w.in-Assign.is ∙ lacks.full.is in absurd cc
+      | in-Change+else-is_full_for+in_ok-open-in-Change+in_ok-write_entry-in-Change+in_ok-push-in-Change w ↦ λ rs ws count taken next are tidy lacks.
+          absurd (never_beside (state c.self.inside.strands c.self.inside.failed) c.args.self.now c.self.view_is rs c.args.next.now w.in-Change.xid w.entry_len.result w.in-Change.change w.in-Change.is w.entry_len.ensures.value
+          w.is_full_for.ensures.pool w.is_full_for.ensures.hold (rw w.if-is_full_for.false at w.is_full_for.ensures.room) taken next ws count are tidy lacks)
+      | in-AbortSub w ↦ λ rs ws count taken next are tidy lacks. let is = sym w.in-AbortSub.is ∙ lacks.full.is in absurd cc
+      | in-Abort w ↦ λ rs ws count taken next are tidy lacks. let is = sym w.in-Abort.is ∙ lacks.full.is in absurd cc
+      | in-Note w ↦ λ rs ws count taken next are tidy lacks. let is = sym w.in-Note.is ∙ lacks.full.is in absurd cc
     ]

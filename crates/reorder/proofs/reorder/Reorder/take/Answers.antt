@@ -26,3 +26,37 @@ returns-in_err-step-clause-full_beside c = λ is rs ws count taken next are tidy
     (c.in_err-step.ensures.full_beside (search rules) rs ws count (has_taken strands true rs before.ready) next
     (lent_as strands c.self.inside.failed true ws (subst (λ (s : ReorderState). AreLentIn s ws) (sym c.self.view_is) are))
     (subst (λ (s : StrandsState). IsTidy count [] s) (settled_as strands c.self.inside.failed true ws) (subst (λ (s : ReorderState). IsTidy count [] (after_giving_all_back s ws).strands) (sym c.self.view_is) tidy)))
+
+pub returns-in_err-step-clause-lacks : goal.returns-in_err-step-clause-lacks
+returns-in_err-step-clause-lacks c = λ rs count running taken next tidy lacks.
+    let strands : StrandsState = c.self.inside.strands in
+    let before : HasTaken (record { strands = strands; failed = c.self.inside.failed }) rs = subst (λ (s : ReorderState). HasTaken s rs) (sym c.self.view_is) taken in
+    let full = c.in_err-step.ensures.lacks rs count (has_taken strands true rs before.ready) next (subst (λ (s : ReorderState). IsTidy count [] s.strands) (sym c.self.view_is) tidy) lacks in
+    search (rules, full)
+
+pub returns-in_err-step-clause-lacks_beside : goal.returns-in_err-step-clause-lacks_beside
+returns-in_err-step-clause-lacks_beside c = λ rs ws count running taken next are tidy lacks.
+    let strands : StrandsState = c.self.inside.strands in
+    let before : HasTaken (record { strands = strands; failed = c.self.inside.failed }) rs = subst (λ (s : ReorderState). HasTaken s rs) (sym c.self.view_is) taken in
+    let full = c.in_err-step.ensures.lacks_beside rs ws count (has_taken strands true rs before.ready) next
+    (lent_as strands c.self.inside.failed true ws (subst (λ (s : ReorderState). AreLentIn s ws) (sym c.self.view_is) are))
+    (subst (λ (s : StrandsState). IsTidy count [] s) (settled_as strands c.self.inside.failed true ws) (subst (λ (s : ReorderState). IsTidy count [] (after_giving_all_back s ws).strands) (sym c.self.view_is) tidy))
+    (subst (λ (s : ReorderState). LeavesNoRoomBeside (lent_chunks s ws) count rs c.args.next.now) (sym c.self.view_is) lacks) in
+    search (rules, full)
+
+pub returns-clause-lacks : goal.returns-clause-lacks
+returns-clause-lacks c = λ rs count running taken next tidy lacks.
+    let strands : StrandsState = c.self.inside.strands in
+    let before : HasTaken (record { strands = strands; failed = c.self.inside.failed }) rs = subst (λ (s : ReorderState). HasTaken s rs) (sym c.self.view_is) taken in
+    let full = c.in_ok-step.ensures.lacks rs count (has_taken strands true rs before.ready) next (subst (λ (s : ReorderState). IsTidy count [] s.strands) (sym c.self.view_is) tidy) lacks in
+    absurd cc
+
+pub returns-clause-lacks_beside : goal.returns-clause-lacks_beside
+returns-clause-lacks_beside c = λ rs ws count running taken next are tidy lacks.
+    let strands : StrandsState = c.self.inside.strands in
+    let before : HasTaken (record { strands = strands; failed = c.self.inside.failed }) rs = subst (λ (s : ReorderState). HasTaken s rs) (sym c.self.view_is) taken in
+    let full = c.in_ok-step.ensures.lacks_beside rs ws count (has_taken strands true rs before.ready) next
+    (lent_as strands c.self.inside.failed true ws (subst (λ (s : ReorderState). AreLentIn s ws) (sym c.self.view_is) are))
+    (subst (λ (s : StrandsState). IsTidy count [] s) (settled_as strands c.self.inside.failed true ws) (subst (λ (s : ReorderState). IsTidy count [] (after_giving_all_back s ws).strands) (sym c.self.view_is) tidy))
+    (subst (λ (s : ReorderState). LeavesNoRoomBeside (lent_chunks s ws) count rs c.args.next.now) (sym c.self.view_is) lacks) in
+    absurd cc
