@@ -35,9 +35,9 @@ def groups_of(top):
 
 
 def kinds_of(top):
-    """What each crate is about: the headings in the map's table."""
+    """What each crate is about: the headings in the table of crates/README.md."""
     kinds, kind = {}, None
-    for line in (top / "docs/MAP.md").read_text().splitlines():
+    for line in (top / "crates/README.md").read_text().splitlines():
         heading = re.fullmatch(r"\| \*\*(\w[^*]*)\*\*(?:: (.*))? \| \|", line)
         crate = re.match(r"\| `(\w+)` \| ", line)
         if heading:
@@ -57,7 +57,7 @@ def picture(top):
     kinds, below = kinds_of(top), reduced(every) | {crate: [] for crate in groups[-1]}
     for crate in below:
         if crate not in kinds:
-            raise SystemExit(f"docs/MAP.md: its table lacks {crate}, so it can't be drawn")
+            raise SystemExit(f"crates/README.md: its table lacks {crate}, so it can't be drawn")
     colours = dict(zip(dict.fromkeys(kinds.values()), COLOURS))
     drawing = Drawing(below, layers_of(below, groups), width_of, 16)
     x = {node: drawing.x[node] + LEFT for node in drawing.x}
