@@ -90,15 +90,6 @@ class Session:
                 self.tell(0, True)
         raise TimeoutError("the stream doesn't come to its end")
 
-    def until_told(self):
-        """Waits for the keepalive that answers a status, after which that is taken."""
-        while True:
-            kind, body = self.frame()
-            if kind == b"E":
-                raise refused(body)
-            if kind == b"d" and body[:1] == b"k":
-                return
-
     def close(self):
         self.bytes.close()
         self.socket.close()
