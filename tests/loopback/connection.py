@@ -4,16 +4,50 @@ import struct
 import time
 
 TERMINATE = b"X\0\0\0\4"
+# Where the clock stands in the body of a CopyData, by its kind: XLogData, a keepalive, and a status.
+CLOCKS = {b"w": 17, b"k": 9, b"r": 25}
+# How many seconds after the beginning of 1970 that of 2000 is.
+YEAR_2000 = 946_684_800
 STARTUP = b"\0\x03\0\0user\0me\0database\0app\0replication\0database\0\0"
 
 
 def status(flushed, asks=False):
-    """The frame of a status that tells this flushed position."""
+    """The frame of a status that tells this flushed position, under the clock 0."""
     return b"d" + struct.pack(">IcQQQqB", 38, b"r", flushed, flushed, flushed, 0, asks)
 
 
+def clock_of(body):
+    """The clock of the body of a CopyData, in seconds since the beginning of 1970; None where it has none."""
+    at = CLOCKS.get(body[:1])
+    return None if at is None else int.from_bytes(body[at : at + 8], "big", signed=True) / 1e6 + YEAR_2000
+
+
+def timeless(body):
+    """The body of a CopyData with 0 in the place of its clock, to be compared."""
+    at = CLOCKS.get(body[:1])
+    return body if at is None else body[:at] + bytes(8) + body[at + 8 :]
+
+
+def timeless_stream(came):
+    """The bytes of a stream, cut anywhere, with 0 in the places of their clocks."""
+    came, at = bytearray(came), 0
+    while at + 5 < len(came):
+        clock = CLOCKS.get(bytes(came[at + 5 : at + 6])) if came[at : at + 1] == b"d" else None
+        if clock is not None:
+            first = at + 5 + clock
+            last = min(first + 8, len(came))
+            came[first:last] = bytes(max(0, last - first))
+        at += 1 + int.from_bytes(came[at + 1 : at + 5], "big")
+    return bytes(came)
+
+
+def read_status(heard):
+    """The next frame of a follower, a status, with 0 in the place of its clock."""
+    return timeless_stream(heard.read(39))
+
+
 def keepalive(position):
-    """The frame of a keepalive that doesn't ask."""
+    """The frame of a keepalive that doesn't ask, under the clock 0."""
     return b"d" + struct.pack(">IcQqB", 22, b"k", position, 0, 0)
 
 
@@ -63,7 +97,12 @@ class Connection:
         return True
 
     def frame(self):
-        """The next frame: its type, and its body."""
+        """The next frame: its type, and its body, of one in a stream with 0 in the place of its clock."""
+        kind, body = self.timed_frame()
+        return kind, timeless(body) if kind == b"d" else body
+
+    def timed_frame(self):
+        """The next frame, with its clock."""
         head = self.bytes.read(5)
         if len(head) < 5:
             raise EOFError

@@ -7,7 +7,7 @@ import socket
 import struct
 import subprocess
 
-from connection import framed, position, status
+from connection import framed, position, read_status, status
 from server import FIRST, Server, inserts
 
 HERE = pathlib.Path(__file__).resolve().parent
@@ -100,7 +100,7 @@ def acknowledgements_follow_what_was_printed(pubd, subcat):
             client.sendall(b"".join(changes))
             wrong += ["a transaction is acknowledged before its Commit"] * bool(select.select([client], [], [], 0.3)[0])
             client.sendall(commit)
-            wrong += ["its end isn't acknowledged"] * (heard.read(39) != status(FIRST + 0x50))
+            wrong += ["its end isn't acknowledged"] * (read_status(heard) != status(FIRST + 0x50))
             printed += os.read(follower.stdout.fileno(), 65536)
             wrong += ["it is acknowledged before it is printed"] * (printed.count(b"COMMIT ") != turn)
         wrong += ["the stream isn't ended"] * (heard.read(5) != framed("63"))

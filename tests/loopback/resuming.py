@@ -8,7 +8,7 @@ import subprocess
 import tempfile
 import time
 
-from connection import Connection, Refused, framed, status
+from connection import Connection, Refused, framed, read_status, status
 from cutting import Cutting
 from followers import asked_of, server_frames
 from server import Server, inserts, messages, printed_of_inserts, printed_of_messages
@@ -140,7 +140,7 @@ def a_silent_server_is_asked_and_then_lost(pubd, subcat):
         client.settimeout(3 * PATIENCE)
         client.sendall(STREAM_BEGINS)
         begun = time.monotonic()
-        asked = heard.read(39)
+        asked = read_status(heard)
         took = [time.monotonic() - begun]
         told = follower.stderr.readline()
         took.append(time.monotonic() - begun)

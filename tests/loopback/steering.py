@@ -4,7 +4,7 @@ import socket
 import struct
 import sys
 
-from connection import Connection, position, status
+from connection import Connection, position, status, timeless_stream
 from driving import wrong_refusal
 from server import CONFIGURATION, Server
 
@@ -107,7 +107,7 @@ def transaction_of(client):
 
 def wrong_bytes(where, came, due, pieces=1):
     """Of a cut between two frames it isn't known how many keepalives came before it, each of so many bytes."""
-    came = came[: len(came) % pieces] if pieces > 1 else came
+    came = timeless_stream(came[: len(came) % pieces] if pieces > 1 else came)
     return [f"of a connection that is cut {where} comes {came.hex()}, and not {due.hex()}"] * (came != due)
 
 

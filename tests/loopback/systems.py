@@ -8,7 +8,7 @@ import subprocess
 import tempfile
 import time
 
-from connection import Connection, framed, status
+from connection import Connection, framed, read_status, status
 from followers import asked_of, server_frames
 from server import CONFIGURATION, FIRST, Server, inserts, printed_of_inserts
 
@@ -123,7 +123,7 @@ class Following:
         self.heard = self.client.makefile("rb")
         said = server_frames()
         asked_of(self.client, self.heard, said)
-        self.transaction = b"".join(framed(digits) for digits in said if digits.startswith("6477"))
+        self.transaction = [framed(digits) for digits in said if digits.startswith("6477")]
         self.client.sendall(STREAM_BEGINS)
 
     def __enter__(self):
@@ -135,14 +135,15 @@ class Following:
         self.client.close()
         self.listener.close()
 
-    def send(self, end):
-        """Sends a transaction that ends there, and 32 bytes before it the commit record begins."""
+    def send(self, end, clock=0):
+        """Sends a transaction that ends there, and 32 bytes before it the commit record begins, under this clock."""
         start, due = (end - 32).to_bytes(8, "big"), end.to_bytes(8, "big")
         first, last = (FIRST + 0x30).to_bytes(8, "big"), END.to_bytes(8, "big")
-        self.client.sendall(self.transaction.replace(last, due).replace(first, start))
+        frames = (frame.replace(last, due).replace(first, start) for frame in self.transaction)
+        self.client.sendall(b"".join(frame[:22] + clock.to_bytes(8, "big", signed=True) + frame[30:] for frame in frames))
 
     def is_acknowledged(self, end):
-        return self.heard.read(39) == status(end)
+        return read_status(self.heard) == status(end)
 
 
 def an_output_that_is_taken_away_ends_it(pubd, subcat):

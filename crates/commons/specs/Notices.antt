@@ -13,7 +13,7 @@ abbrev pub notice_end : Option Committed → ℕ
 notice_end None = 0
 notice_end (Some latest) = latest.end
 
--- what was written that no stream was told of: where the log ends behind it, and the receipt of a commit
+-- what was written that no stream was told of: where the log ends after it, and the receipt of a commit
 pub record News : Type 0 where
   pub end : ℕ
   pub receipt : Option Committed

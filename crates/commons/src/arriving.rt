@@ -129,7 +129,7 @@ impl<L: LogName + SlotName> Commons<L> {
         self.free_place(Place::Crowd);
     }
 
-    /// Tells a client that it can't be served beside the others. Behind the server's end nobody is told anything.
+    /// Tells a client that it can't be served beside the others. After the server's end nobody is told anything.
     fn refuse<G: Gate>(&self, gate: &G, why: Unserved, socket: &TcpStream) {
         gate.untaken(socket.peer_addr().ok(), &Untaken::Closed(why));
         if why != Unserved::ServerEnd {

@@ -53,7 +53,7 @@ impl<L: LogName> CommitNotice<L> {
         }
     }
 
-    /// Tells a reader of that commit: its next fetch sees it. Of notes there is nothing to be told: whoever fetches behind one sees
+    /// Tells a reader of that commit: its next fetch sees it. Of notes there is nothing to be told: whoever fetches after one sees
     /// it.
     pub fn tell(&self, reader: &mut LogReader<L>)
         ensures kept { IsPrefix reader.old.told reader.new.told }

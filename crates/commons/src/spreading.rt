@@ -12,7 +12,7 @@ use std::marker::Model;
 use std::sync::Wait;
 use txlog::Receipt;
 
-/// What was written that no stream was told of: where the log ends behind it, and the receipt of a commit. It isn't `Drop`:
+/// What was written that no stream was told of: where the log ends after it, and the receipt of a commit. It isn't `Drop`:
 /// `Commons::spread` tells it.
 pub(crate) struct Unheard<L: LogName> {
     end: u64,
@@ -37,7 +37,7 @@ impl<L: LogName> Unheard<L> {
         }
     }
 
-    /// Of a note or an abort, behind which the log ends there.
+    /// Of a note or an abort, after which the log ends there.
     pub fn of_end(end: u64) -> Self
         ensures { result ≡ news_of_end end }
     {
@@ -67,7 +67,7 @@ impl Woken {
 }
 
 impl<L: LogName + SlotName> Commons<L> {
-    /// Streams read on behind what was written, at least: each latch is told.
+    /// Streams read on after what was written, at least: each latch is told.
     pub(crate) fn spread<R: Wait>(&self, rt: &R, unheard: Unheard<L>) -> Woken
         ensures { IsWoken (vec_len self.now.latches) unheard.end result }
     {

@@ -152,7 +152,7 @@ impl<'h, L: LogName + SlotName, R: Wait> Transaction<'h, L, R> {
         Ok(Savepoint { depth })
     }
 
-    /// Ends a savepoint with what came of the work behind it. At `Ok` what it changed stays, at `Err` all of it is undone. Where that
+    /// Ends a savepoint with what came of the work after it. At `Ok` what it changed stays, at `Err` all of it is undone. Where that
     /// is refused, the transaction can't commit any more: `end` aborts it, whatever it is ended with.
     pub fn end_savepoint<T, E>(&mut self, savepoint: Savepoint, done: Result<T, E>) -> Result<T, E>
     where
@@ -195,7 +195,7 @@ impl<'h, L: LogName + SlotName, R: Wait> Transaction<'h, L, R> {
     }
 
     /// Ends the transaction with what came of its work. At `Ok` it commits at this time, in microseconds since 2000-01-01, and
-    /// the streams read on behind it; at `Err` it is aborted, and nothing of it stands. A commit that is refused is an abort. Where
+    /// the streams read on after it; at `Err` it is aborted, and nothing of it stands. A commit that is refused is an abort. Where
     /// memory is refused for that too, the error is `Unended`, whatever the work answered.
     #[tactic(auto, using(crate::proofs::Ends::told_by))]
     pub fn end<T, E>(self, time: i64, done: Result<T, E>) -> Result<T, E>

@@ -27,6 +27,8 @@ pub struct Inbox {
     is_broken: bool,
     /// Why no more could be written.
     early: Option<ConnectionEnd>,
+    /// What the clock said last.
+    clock: i64,
 }
 
 /// What the writing thread takes of it.
@@ -37,6 +39,8 @@ pub struct Work {
     pub asked: u32,
     pub is_silent: bool,
     pub phase: Phase,
+    /// What the clock said when it was taken, in microseconds since 2000-01-01.
+    pub clock: i64,
 }
 
 impl Work {
@@ -57,6 +61,7 @@ impl Inbox {
             has_ended: false,
             is_broken: false,
             early: None,
+            clock: 0,
         }
     }
 
@@ -99,6 +104,20 @@ impl Inbox {
         self.is_silent = true;
     }
 
+    /// The clock says this now.
+    pub fn tell_time(&mut self, clock: i64)
+        ensures { self.new ≡ record self.old { clock = clock } }
+    {
+        self.clock = clock;
+    }
+
+    /// What the clock said last.
+    pub fn clock(&self) -> i64
+        ensures { result ≡ self.now.clock }
+    {
+        self.clock
+    }
+
     /// Takes all that is there for the writing thread.
     pub fn take(&mut self, alloc: Global) -> Work
         ensures work { result
@@ -108,12 +127,13 @@ impl Inbox {
               asked = self.old.asked;
               is_silent = self.old.is_silent;
               phase = self.old.phase;
+              clock = self.old.clock;
             } }
         ensures empty { self.new.said.items ≡ [] }
         ensures rest { (self.new.flushed ≡ None) × (self.new.asked ≡ 0)
             × (self.new.is_silent ≡ false) × (self.new.phase ≡ self.old.phase) }
         ensures same { (self.new.has_ended ≡ self.old.has_ended)
-            × (self.new.is_broken ≡ self.old.is_broken) }
+            × (self.new.is_broken ≡ self.old.is_broken) × (self.new.clock ≡ self.old.clock) }
     {
         let said = mem::replace(&mut self.said, BytesMut::new(alloc));
         let flushed = mem::replace(&mut self.flushed, None);
@@ -125,6 +145,7 @@ impl Inbox {
             asked,
             is_silent,
             phase: self.phase,
+            clock: self.clock,
         }
     }
 

@@ -4,6 +4,7 @@ use crate::fault::ConnectionEnd;
 use crate::inbox::{Inbox, Work};
 use crate::reading::left_until;
 use bytes::BytesMut;
+use clocks::clock_now;
 use server::Phase;
 use std::alloc::Global;
 use std::mem;
@@ -141,9 +142,22 @@ impl<S> Line<S> {
         self.inbox.lock(rt).is_heard()
     }
 
-    /// Takes all that is there to do.
-    pub fn take<R: Wait>(&self, rt: &R) -> Work {
+    /// The inbox, which has been told the time.
+    fn inbox_now<R: Wait + Clock>(&self, rt: &R) -> MutexGuard<'_, Inbox> {
         let mut inbox = self.inbox.lock(rt);
+        let clock = clock_now(rt, inbox.clock());
+        inbox.tell_time(clock);
+        inbox
+    }
+
+    /// What the clock says, in microseconds since 2000-01-01, or, where it can't be read, what it said last.
+    pub fn clock<R: Wait + Clock>(&self, rt: &R) -> i64 {
+        self.inbox_now(rt).clock()
+    }
+
+    /// Takes all that is there to do.
+    pub fn take<R: Wait + Clock>(&self, rt: &R) -> Work {
+        let mut inbox = self.inbox_now(rt);
         let work = inbox.take(self.alloc);
         drop(inbox);
         self.taken.notify_all();

@@ -58,7 +58,7 @@ gains_in old (Receives bytes result ∷ deeds) new run =
 gains_in old (Prints lines ∷ deeds) new run = printing old.applier run.0.applier new.applier (printed_in run.0 deeds new run.2) run.1.applier (gains_in run.0 deeds new run.2)
 gains_in old (Sums lines ∷ deeds) new run = passing old.applier run.0.applier (before (printed_in run.0 deeds new run.2) new.applier.subscriber) (summed old run.0 lines run.1.0 run.1.1) (gains_in run.0 deeds new run.2)
 gains_in old (Breaks lines ∷ deeds) new run = passing old.applier run.0.applier (before (printed_in run.0 deeds new run.2) new.applier.subscriber) run.1.applier (gains_in run.0 deeds new run.2)
-gains_in old (Tells ask count ∷ deeds) new run = passing old.applier run.0.applier (before (printed_in run.0 deeds new run.2) new.applier.subscriber) (ap applier_of run.1.same) (gains_in run.0 deeds new run.2)
+gains_in old (Tells clock ask count ∷ deeds) new run = passing old.applier run.0.applier (before (printed_in run.0 deeds new run.2) new.applier.subscriber) (ap applier_of run.1.same) (gains_in run.0 deeds new run.2)
 gains_in old (Ends count ∷ deeds) new run = passing old.applier run.0.applier (before (printed_in run.0 deeds new run.2) new.applier.subscriber) (ap applier_of run.1.same) (gains_in run.0 deeds new run.2)
 
 pub each_once : (start : ℕ) (written kept sent : Option (List ℕ)) (deeds : List Deed) (now : Standing) (run : Runs (begun_at start written kept sent) deeds now)
@@ -99,7 +99,7 @@ keeps base text printed old (Sums lines ∷ deeds) new run are had =
     keeps base text printed run.0 deeds new run.2 are (subst (λ (a : ApplierState). HasTaken base (with_printed printed a) text) (sym (summed old run.0 lines run.1.0 run.1.1)) had)
 keeps base text printed old (Breaks lines ∷ deeds) new run are had =
     keeps base text printed run.0 deeds new run.2 are (subst (λ (a : ApplierState). HasTaken base (with_printed printed a) text) (sym run.1.applier) had)
-keeps base text printed old (Tells ask count ∷ deeds) new run are had =
+keeps base text printed old (Tells clock ask count ∷ deeds) new run are had =
     keeps base text printed run.0 deeds new run.2 are (subst (λ (a : ApplierState). HasTaken base (with_printed printed a) text) (sym (ap applier_of run.1.same)) had)
 keeps base text printed old (Ends count ∷ deeds) new run are had =
     keeps base text printed run.0 deeds new run.2 are (subst (λ (a : ApplierState). HasTaken base (with_printed printed a) text) (sym (ap applier_of run.1.same)) had)

@@ -1,6 +1,6 @@
 -- One deed behind the other.
 use Rattle.std.specs.Prelude.{OnOk, OnErr}
-use Rattle.std.proofs.Common.{◌≡◌, ◌⊎◌, inl, inr, ℕ, Bool, List, [], ◌∷◌, ◌++◌, Option, Result, Ok, Err, refl, sym, ap, subst, ◌∙◌, take}
+use Rattle.std.proofs.Common.{◌≡◌, ◌⊎◌, inl, inr, ℕ, ℤ, Bool, List, [], ◌∷◌, ◌++◌, Option, Result, Ok, Err, refl, sym, ap, subst, ◌∙◌, take}
 use Rattle.std.specs.List.{AllByRecursion}
 use Rattle.std.specs.Io.KnownBytes.{Appends, Keeps}
 use Rattle.frames.specs.Frame.{frame}
@@ -105,11 +105,11 @@ summing contents keeping lines unread old handed before after sent (Err e) none 
 
 -- ---- Sending.
 
-pub telling : (ask : Bool) (unread : List ℕ) (d : Delivery) (written kept before after : Option (List ℕ)) → d.intake.applier.subscriber.applied ≡ [] → kept ≡ written
-    → ((count : ℕ) × Appends before after (take count (status_at d.intake.applier.subscriber.position ask)))
+pub telling : (clock : ℤ) (ask : Bool) (unread : List ℕ) (d : Delivery) (written kept before after : Option (List ℕ)) → d.intake.applier.subscriber.applied ≡ [] → kept ≡ written
+    → ((count : ℕ) × Appends before after (take count (status_at d.intake.applier.subscriber.position clock ask)))
     → Goes (standing d unread written kept before) (standing d unread written kept after)
-telling ask unread d written kept before after none safe part =
-    goes_by (standing d unread written kept before) (standing d unread written kept after) (Tells ask part.0) (record { printed = none; kept = safe; sent = part.1; same = refl }) tt
+telling clock ask unread d written kept before after none safe part =
+    goes_by (standing d unread written kept before) (standing d unread written kept after) (Tells clock ask part.0) (record { printed = none; kept = safe; sent = part.1; same = refl }) tt
 
 pub ending : (bytes unread : List ℕ) (d : Delivery) (written kept before after : Option (List ℕ)) → d.intake.applier.subscriber.applied ≡ [] → kept ≡ written → bytes ≡ frame COPY_DONE []
     → ((count : ℕ) × Appends before after (take count bytes))

@@ -1,5 +1,5 @@
 -- Over runs that were killed each transaction stands in the output once.
-use Rattle.std.proofs.Common.{◌≡◌, ℕ, ◌≤◌, ◌+◌, Bool, true, false, cond, List, [], ◌∷◌, ◌++◌, Option, refl, sym, ap, subst, ◌∙◌, append_assoc, arith}
+use Rattle.std.proofs.Common.{◌≡◌, ℕ, ℤ, ◌≤◌, ◌+◌, Bool, true, false, cond, List, [], ◌∷◌, ◌++◌, Option, refl, sym, ap, subst, ◌∙◌, append_assoc, arith}
 use Rattle.std.proofs.lemmas.List.{append-nil}
 use Rattle.std.specs.Prelude.{◌<◌, max}
 use Rattle.std.specs.List.{AllByRecursion}
@@ -37,9 +37,9 @@ pub over_lives : (start : ℕ) (printed : List Published) (lives : List Life) (l
 over_lives start printed [] lived p = p
 over_lives start printed (life ∷ lives) lived p = over_lives start (printed_after start printed life lived.0) lives lived.1 (lived_behind start printed life lived.0 p)
 
-pub none_ahead : (start : ℕ) (written kept sent : Option (List ℕ)) (deeds : List Deed) (old new : Standing) (run : Runs (begun_at start written kept sent) deeds old) (ask : Bool) (count : ℕ) → Does (Tells ask count) old new
+pub none_ahead : (start : ℕ) (written kept sent : Option (List ℕ)) (deeds : List Deed) (old new : Standing) (run : Runs (begun_at start written kept sent) deeds old) (clock : ℤ) (ask : Bool) (count : ℕ) → Does (Tells clock ask count) old new
     → EachOnce start (printed_in (begun_at start written kept sent) deeds old run) old.applier.subscriber.position × (new.kept ≡ new.written)
-none_ahead start written kept sent deeds old new run ask count does =
+none_ahead start written kept sent deeds old new run clock ask count does =
     let printed = printed_in (begun_at start written kept sent) deeds old run in
     let all : printed ++ old.applier.subscriber.applied ≡ printed = ap (λ (l : List Published). printed ++ l) does.printed ∙ append-nil printed in
     let same = does.same in

@@ -25,7 +25,7 @@ printed_in old (Waits ∷ deeds) new run = printed_in run.0 deeds new run.2
 printed_in old (Receives bytes result ∷ deeds) new run = printed_in run.0 deeds new run.2
 printed_in old (Sums lines ∷ deeds) new run = printed_in run.0 deeds new run.2
 printed_in old (Breaks lines ∷ deeds) new run = printed_in run.0 deeds new run.2
-printed_in old (Tells ask count ∷ deeds) new run = printed_in run.0 deeds new run.2
+printed_in old (Tells clock ask count ∷ deeds) new run = printed_in run.0 deeds new run.2
 printed_in old (Ends count ∷ deeds) new run = printed_in run.0 deeds new run.2
 
 -- on one connection, and without a fault of what came
@@ -39,7 +39,7 @@ AreReceived (Waits ∷ deeds) = AreReceived deeds
 AreReceived (Prints lines ∷ deeds) = AreReceived deeds
 AreReceived (Sums lines ∷ deeds) = AreReceived deeds
 AreReceived (Breaks lines ∷ deeds) = AreReceived deeds
-AreReceived (Tells ask count ∷ deeds) = AreReceived deeds
+AreReceived (Tells clock ask count ∷ deeds) = AreReceived deeds
 AreReceived (Ends count ∷ deeds) = AreReceived deeds
 
 -- the bytes that were taken
@@ -52,5 +52,5 @@ received_bytes (Waits ∷ deeds) = received_bytes deeds
 received_bytes (Prints lines ∷ deeds) = received_bytes deeds
 received_bytes (Sums lines ∷ deeds) = received_bytes deeds
 received_bytes (Breaks lines ∷ deeds) = received_bytes deeds
-received_bytes (Tells ask count ∷ deeds) = received_bytes deeds
+received_bytes (Tells clock ask count ∷ deeds) = received_bytes deeds
 received_bytes (Ends count ∷ deeds) = received_bytes deeds

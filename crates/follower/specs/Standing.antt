@@ -1,5 +1,5 @@
 -- Where a follower stands, and what each of its deeds makes of that.
-use Rattle.std.specs.Prelude.{◌≡◌, ◌⊎◌, ℕ, Bool, true, false, pos, List, [], ◌∷◌, ◌++◌, take, Option, Result}
+use Rattle.std.specs.Prelude.{◌≡◌, ◌⊎◌, ℕ, ℤ, Bool, true, false, List, [], ◌∷◌, ◌++◌, take, Option, Result}
 use Rattle.std.specs.List.{AllByRecursion}
 use Rattle.std.specs.Io.KnownBytes.{Appends, Keeps}
 use Rattle.frames.specs.Frame.{frame}
@@ -22,8 +22,8 @@ pub record Standing : Type 0 where
   pub is_broken : Bool
 
 -- A server is asked, and a connection begins. More comes. Of what came these bytes are taken, of which this is answered. What is
--- there is printed by these lines; behind all of it these are printed; the output fails at these lines. Of a status, which may ask
--- for a keepalive, so many bytes are sent; likewise of the end of the stream.
+-- there is printed by these lines; behind all of it these are printed; the output fails at these lines. Of a status under a clock,
+-- which may ask for a keepalive, so many bytes are sent; likewise of the end of the stream.
 pub data Deed : Type 0 where
   Asks : Deed
   Connects : Deed
@@ -32,12 +32,12 @@ pub data Deed : Type 0 where
   Prints : List ℕ → Deed
   Sums : List ℕ → Deed
   Breaks : List ℕ → Deed
-  Tells : Bool → ℕ → Deed
+  Tells : (clock : ℤ) → (ask : Bool) → ℕ → Deed
   Ends : ℕ → Deed
 
--- the status that acknowledges all up to a position
-abbrev pub status_at : ℕ → Bool → List ℕ
-status_at position ask = frame COPY_DATA (status (record { written = position; flushed = position; applied = position; clock = pos 0; ask = ask }))
+-- the status that acknowledges all up to a position, under a clock
+abbrev pub status_at : ℕ → ℤ → Bool → List ℕ
+status_at position clock ask = frame COPY_DATA (status (record { written = position; flushed = position; applied = position; clock = clock; ask = ask }))
 
 -- Lines came to the output, and stand there for good with all before them. Nothing waits any more.
 pub record DoesPrint (lines : List ℕ) (old new : Standing) : Type 0 where
@@ -74,7 +74,7 @@ Does (Receives bytes result) old new = Takes old.applier new.applier bytes resul
 Does (Prints lines) old new = DoesPrint lines old new
 Does (Sums lines) old new = (old.applier.subscriber.applied ≡ []) × DoesPrint lines old new
 Does (Breaks lines) old new = DoesBreak lines old new
-Does (Tells ask count) old new = DoesSend (status_at old.applier.subscriber.position ask) count old new
+Does (Tells clock ask count) old new = DoesSend (status_at old.applier.subscriber.position clock ask) count old new
 Does (Ends count) old new = DoesSend (frame COPY_DONE []) count old new
 
 -- one deed after the other

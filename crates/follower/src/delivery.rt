@@ -30,6 +30,8 @@ pub(crate) struct Delivery {
     /// Whether the output has failed. Then nobody knows how much of the lines came to it, and nothing is printed behind them: another
     /// run goes on from what it holds.
     is_broken: bool,
+    /// What the clock said last, in microseconds since 2000-01-01.
+    clock: i64,
 }
 
 impl Delivery {
@@ -40,7 +42,22 @@ impl Delivery {
             intake: Intake::new(alloc, position, count),
             printer: Printer::new(alloc, form, kept),
             is_broken: false,
+            clock: 0,
         }
+    }
+
+    /// What the clock said last.
+    pub(crate) fn clock(&self) -> i64
+        ensures { result ≡ self.now.clock }
+    {
+        self.clock
+    }
+
+    /// The clock says this now.
+    pub(crate) fn tell_time(&mut self, clock: i64)
+        ensures { self.new ≡ record self.old { clock = clock } }
+    {
+        self.clock = clock;
     }
 
     /// Takes a frame, and does what it asks for.
@@ -166,7 +183,8 @@ impl Delivery {
             (S.contents socket.new)) }
         ensures settled { OnOk result (self.new.intake.applier.subscriber.applied ≡ []) }
         ensures told { OnOk result (Appends (S.contents socket.old) (S.contents socket.new)
-            (status_at self.new.intake.applier.subscriber.position ask)) }
+            (status_at self.new.intake.applier.subscriber.position self.new.clock ask)) }
+        ensures clock { self.new.clock ≡ self.old.clock }
     {
         self.print(output)?;
         self.send_status(ask, socket)
@@ -176,11 +194,12 @@ impl Delivery {
     fn send_status<S: Write>(&self, ask: bool, socket: &mut S) -> Result<(), FollowFault>
         requires { self.now.intake.applier.subscriber.applied ≡ [] }
         ensures part { (count : ℕ) × Appends (S.contents socket.old) (S.contents socket.new)
-            (take count (status_at self.now.intake.applier.subscriber.position ask)) }
+            (take count
+            (status_at self.now.intake.applier.subscriber.position self.now.clock ask)) }
         ensures ok { OnOk result (Appends (S.contents socket.old) (S.contents socket.new)
-            (status_at self.now.intake.applier.subscriber.position ask)) }
+            (status_at self.now.intake.applier.subscriber.position self.now.clock ask)) }
     {
-        let status = self.intake.status(ask);
+        let status = self.intake.status(self.clock, ask);
         send(&status, socket)
     }
 
@@ -208,6 +227,7 @@ impl Delivery {
         ensures left { OnOk result (self.new.intake.left
             ≡ self.old.intake.left - length self.old.intake.applier.subscriber.applied) }
         ensures kept { OnOk result (W.kept output.new ≡ W.contents output.new) }
+        ensures clock { self.new.clock ≡ self.old.clock }
     {
         let lines = self.lines()?;
         self.hand(lines.as_slice(), output)?;

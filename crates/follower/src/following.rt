@@ -9,6 +9,7 @@ use crate::kept::Kept;
 use crate::options::Options;
 use crate::streamed::{body_in, carried, message_in, print_lines};
 use client::{Applier, ClientFault};
+use clocks::clock_now;
 use copyboth::ServerBody;
 use frames::{Back, Front};
 use message_lines::render;
@@ -16,6 +17,7 @@ use pgoutput::Logical;
 use std::alloc::{AllocError, Global};
 use std::io::{Read, Write};
 use std::sync::Wait;
+use std::time::Clock;
 
 /// Asks a server for a stream of the slot, and prints each message on a line, in the form of the options. Behind each Commit, and
 /// behind each message outside of a transaction, it tells the server its position, and once it has as many of these as it should it
@@ -23,7 +25,7 @@ use std::sync::Wait;
 ///
 /// K4 is what the server refused. K1 to K3, K5 and K8 are those of an applier. K6 comes where the connection or the output failed,
 /// where the connection ended early, or where a command with these names is too long to be sent.
-pub fn follow<R: Wait, S: Read + Write, W: Write>(
+pub fn follow<R: Wait + Clock, S: Read + Write, W: Write>(
     rt: &R,
     alloc: Global,
     socket: &mut S,
@@ -42,6 +44,8 @@ struct Following {
     alloc: Global,
     applier: Applier,
     left: u32,
+    /// What the clock said last, in microseconds since 2000-01-01.
+    clock: i64,
     /// In the form of JSON.
     transcript: Option<JsonTranscript>,
 }
@@ -59,12 +63,13 @@ impl Following {
             alloc,
             applier: Applier::new(alloc),
             left: options.count,
+            clock: 0,
             transcript: transcript_in(alloc, options.form),
         }
     }
 
     /// From the stream's first frame to its end.
-    fn follow_stream<R: Wait, S: Read + Write, W: Write>(
+    fn follow_stream<R: Wait + Clock, S: Read + Write, W: Write>(
         &mut self,
         rt: &R,
         incoming: &mut Incoming,
@@ -76,7 +81,7 @@ impl Following {
         send(self.alloc, socket, &Front::CopyDone)
     }
 
-    fn take_frames<R: Wait, S: Read + Write, W: Write>(
+    fn take_frames<R: Wait + Clock, S: Read + Write, W: Write>(
         &mut self,
         rt: &R,
         incoming: &mut Incoming,
@@ -90,14 +95,15 @@ impl Following {
             let (frame, length) = incoming.next(rt, socket)?;
             let taken = self.applier.take(incoming.front(length));
             incoming.pass(length);
-            self.take_frame(frame, taken, socket, output)?;
+            self.take_frame(rt, frame, taken, socket, output)?;
         }
         Ok(())
     }
 
     /// Takes a frame, and what the applier told of it.
-    fn take_frame<S: Write, W: Write>(
+    fn take_frame<R: Clock, S: Write, W: Write>(
         &mut self,
+        rt: &R,
         frame: Back,
         taken: Result<(), ClientFault>,
         socket: &mut S,
@@ -108,11 +114,11 @@ impl Following {
             ServerBody::XLogData(data) => {
                 if self.print(data.start, data.payload, output)? {
                     self.left = self.left.saturating_sub(1);
-                    self.acknowledge(socket)?;
+                    self.acknowledge(rt, socket)?;
                 }
                 Ok(())
             }
-            ServerBody::Keepalive(keepalive) if keepalive.ask => self.acknowledge(socket),
+            ServerBody::Keepalive(keepalive) if keepalive.ask => self.acknowledge(rt, socket),
             ServerBody::Keepalive(_) => Ok(()),
         }
     }
@@ -166,9 +172,14 @@ impl Following {
         Ok(())
     }
 
-    /// Tells the server the position, by the clock 0.
-    fn acknowledge<S: Write>(&self, socket: &mut S) -> Result<(), FollowFault> {
-        let status = self.applier.status(0, false);
+    /// Tells the server the position.
+    fn acknowledge<R: Clock, S: Write>(
+        &mut self,
+        rt: &R,
+        socket: &mut S,
+    ) -> Result<(), FollowFault> {
+        self.clock = clock_now(rt, self.clock);
+        let status = self.applier.status(self.clock, false);
         socket.write_all(&status).map_err(FollowFault::Connection)
     }
 }

@@ -1,6 +1,6 @@
 //! What a follower takes in over all its connections: where each begins, what is to be printed, and what is acknowledged.
 
-ghost use Rattle.std.specs.Prelude.{◌≡◌, ◌-◌, ◌↔◌, ◌≤◌, [], List, None, IsTrue, length, pos};
+ghost use Rattle.std.specs.Prelude.{◌≡◌, ◌-◌, ◌↔◌, ◌≤◌, [], List, None, IsTrue, length};
 ghost use Rattle.frames.specs.Frame.{frame};
 ghost use Rattle.frames.specs.declared.copy_data.TheConstants.{COPY_DATA};
 ghost use Rattle.copyboth.specs.Status.{status};
@@ -95,17 +95,17 @@ impl Intake {
         self.left as usize <= self.applier.applied().len()
     }
 
-    /// The status that acknowledges all that was printed, by the clock 0. It may ask for a keepalive.
-    pub(crate) fn status(&self, ask: bool) -> [u8; 39]
+    /// The status that acknowledges all that was printed, under this clock. It may ask for a keepalive.
+    pub(crate) fn status(&self, clock: i64, ask: bool) -> [u8; 39]
         requires { self.now.applier.subscriber.applied ≡ [] }
         ensures { result ≡ frame COPY_DATA (status (record {
           written = self.now.applier.subscriber.position;
           flushed = self.now.applier.subscriber.position;
           applied = self.now.applier.subscriber.position;
-          clock = pos 0;
+          clock = clock;
           ask = ask;
         })) }
     {
-        self.applier.status(0, ask)
+        self.applier.status(clock, ask)
     }
 }

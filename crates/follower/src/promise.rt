@@ -1,6 +1,6 @@
 //! What holds of a follower over all its connections.
 
-ghost use Rattle.std.specs.Prelude.{◌≡◌, ℕ, Bool, List, Option, [], ◌++◌, ◌^◌, ◌<◌};
+ghost use Rattle.std.specs.Prelude.{◌≡◌, ℕ, ℤ, Bool, List, Option, [], ◌++◌, ◌^◌, ◌<◌};
 ghost use Rattle.pgoutput.specs.declared.relation.Relation.{Relation};
 ghost use Rattle.pgoutput.specs.declared.published.Published.{Published};
 ghost use Rattle.pgoutput.specs.Items.{Item, bytes_of_items, FitItems};
@@ -51,8 +51,8 @@ pub fn each_transaction_stands_once_over_kills()
 pub fn no_acknowledgement_is_ahead()
     ensures { (start : ℕ) (written kept sent : Option (List ℕ)) (deeds : List Deed)
         (old new : Standing) (run : Runs (begun_at start written kept sent) deeds old)
-        (ask : Bool) (count : ℕ) →
-        Does (Tells ask count) old new →
+        (clock : ℤ) (ask : Bool) (count : ℕ) →
+        Does (Tells clock ask count) old new →
         EachOnce start (printed_in (begun_at start written kept sent) deeds old run)
         old.applier.subscriber.position
         × (new.kept ≡ new.written) }

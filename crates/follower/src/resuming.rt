@@ -12,8 +12,10 @@ use crate::kept::Kept;
 use crate::options::Options;
 use crate::output::Output;
 use crate::peer::Peer;
+use clocks::clock_now;
 use std::alloc::Global;
 use std::sync::Wait;
+use std::time::Clock;
 
 /// What is followed over connections: how far it is, and what it still waits for.
 #[derive(Drop)]
@@ -67,7 +69,7 @@ impl Subscription {
 ///
 /// Where the fault is a passing one (`FollowFault::is_passing`), the subscription goes on over another connection. Once all is
 /// printed, a connection that is lost is no fault.
-pub fn resume<R: Wait, S: Peer, W: Output>(
+pub fn resume<R: Wait + Clock, S: Peer, W: Output>(
     rt: &R,
     alloc: Global,
     socket: &mut S,
@@ -155,7 +157,7 @@ impl Subscription {
     }
 
     /// Takes frames until all that is waited for is there.
-    fn take_frames<R: Wait, S: Peer, W: Output>(
+    fn take_frames<R: Wait + Clock, S: Peer, W: Output>(
         &mut self,
         rt: &R,
         incoming: &mut Incoming,
@@ -174,9 +176,21 @@ impl Subscription {
             if self.delivery.intake.is_complete() {
                 break;
             }
+            self.tell_time(rt);
             self.take_next(incoming, socket, output)?;
         }
         Ok(())
+    }
+
+    /// What the clock says is known from now on.
+    fn tell_time<R: Clock>(&mut self, rt: &R)
+        ensures { self.new
+            ≡ record self.old {
+              delivery = record self.old.delivery { clock = self.new.delivery.clock };
+            } }
+    {
+        let clock = clock_now(rt, self.delivery.clock());
+        self.delivery.tell_time(clock);
     }
 
     /// Takes the frame at the front, or waits for more of it.

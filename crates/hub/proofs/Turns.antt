@@ -1,5 +1,5 @@
--- Turns of a stream, one behind the other.
-use Rattle.std.proofs.Common.{◌≡◌, ◌⊎◌, ℕ, true, false, List, [], ◌∷◌, ◌++◌, Result, Ok, Err, inl, inr, refl, sym, ap, subst, ◌∙◌}
+-- Turns of a stream, one after the other.
+use Rattle.std.proofs.Common.{◌≡◌, ◌⊎◌, ℕ, ℤ, true, false, List, [], ◌∷◌, ◌++◌, Result, Ok, Err, inl, inr, refl, sym, ap, subst, ◌∙◌, append_assoc}
 use Rattle.std.proofs.Math.Logic.{∥∥₁_map}
 use Rattle.std.specs.Result.{IsErr, is_err}
 use Rattle.std.specs.declared.option.Option.{Option}
@@ -15,12 +15,14 @@ use Rattle.wal.specs.Log.{end_of}
 use Rattle.walsender.specs.Turning.{fetched_from}
 use Rattle.server.specs.declared.connection.Phase.TheVariants as phases
 use Rattle.walsender.specs.declared.walsender.Walsender.{Walsender}
-use Rattle.walsender.specs.Serving.{IsServing, Serves, WritesFirst}
+use Rattle.pgoutput.specs.Words.{word_bytes}
+use Rattle.pgoutput.specs.Items.{keepalive_word}
+use Rattle.walsender.specs.Serving.{IsServing, ReadsAndWrites, Serves}
 use Rattle.connections.specs.declared.fault.ConnectionEnd.{ConnectionEnd}
 use Rattle.connections.specs.declared.inbox.Work.{Work}
-use Rattle.hub.specs.Streams.{HasLearnt, StreamsOn, keepalives}
-use Rattle.hub.specs.Turns.{Answers, Confirms, Ended, EndsTurns, LeavesSlot, ReadsWhole, Standing, TakesTurns, Turn, Turns, WritesStream, standing}
-use Rattle.hub.proofs.Streams.{learnt, one_more}
+use Rattle.hub.specs.Streams.{HasLearnt, StreamsOn, asking, keepalives}
+use Rattle.hub.specs.Turns.{Answers, Confirms, Ended, EndsTurns, LeavesSlot, ReadsWhole, Standing, TakesTurns, Turn, Turns, WritesStream, WritesUnder, WritesWhole, due_first, standing}
+use Rattle.hub.proofs.Streams.{Gave, learnt, one_more}
 
 -- A turn was all that read: what was done before and after it read nothing.
 pub read_whole : {L : Type 0} (old asked turned new : Walsender L) → asked.sender.position ≡ old.sender.position → asked.reader ≡ old.reader → IsPrefix (settled_records turned.reader.told) (seen_of turned.reader)
@@ -39,6 +41,51 @@ told_whole old informed new is reads =
     let At : ℕ → Type 0 = λ place. new.sender.position ≡ end_of old.sender.position (fetched_from place (seen_of new.reader)) in
     record { sees = reads.sees; reads = subst At is.place (subst From is.sender reads.reads); whole = reads.whole }
 
+-- more is held of it, and of that more is lent
+pub held_on : (a b c : SenderState) (held : List ℕ) → b ≡ record a { held = b.held; lent = b.lent } → c ≡ record b { held = held } → c ≡ record a { held = c.held; lent = c.lent }
+held_on a b c held first then =
+    let With : SenderState → Type 0 = λ s. s ≡ record a { held = s.held; lent = s.lent } in
+    subst With (sym then) (ap (λ (s : SenderState). record s { held = held; lent = b.lent }) first)
+
+-- What was due before the log was read was held after all that was written of it; then the turn read under the clock.
+pub writes_under : {L : Type 0} (clock : ℤ) (old answered asked turned new : Walsender L) (before between middle after : Option (List ℕ)) (promised more : List ℕ) → Gave promised answered.sender.held before between
+    → asked.sender.held ≡ answered.sender.held ++ more → asked.sender ≡ record old.sender { held = asked.sender.held; lent = asked.sender.lent }
+    → ReadsAndWrites clock asked.sender turned.sender (fetched_from asked.reader.place (seen_of turned.reader)) between middle → asked.reader ≡ old.reader → new.reader ≡ turned.reader
+    → (after ≡ middle) ⊎ Appends middle after (word_bytes (keepalive_word turned.sender.position clock false)) → WritesUnder clock (promised ++ more) old new before after
+writes_under clock old answered asked turned new before between middle after promised more (early, whole, first) held rest reads at same last =
+    let At : LogReader _ → Type 0 = λ r. ReadsAndWrites clock asked.sender turned.sender (fetched_from r.place (seen_of turned.reader)) between middle in
+    let Seen : LogReader _ → Type 0 = λ r. ReadsAndWrites clock asked.sender turned.sender (fetched_from old.reader.place (seen_of r)) between middle in
+    record {
+      early = early;
+      between = between;
+      first = first;
+      asked = asked.sender;
+      same = rest;
+      parts = ap (λ (l : List ℕ). early ++ l) held ∙ sym (append_assoc early answered.sender.held more) ∙ ap (λ (l : List ℕ). l ++ more) whole;
+      read = turned.sender;
+      turned = middle;
+      reads = subst Seen (sym same) (subst At at reads);
+      last = last;
+    }
+
+-- one that was told of a commit before it
+told_under : {L : Type 0} (clock : ℤ) (due : List ℕ) (old informed new : Walsender L) (before after : Option (List ℕ)) → HasLearnt old informed → WritesUnder clock due informed new before after → WritesUnder clock due old new before after
+told_under clock due old informed new before after is writes =
+    let Same : SenderState → Type 0 = λ s. writes.asked ≡ record s { held = writes.asked.held; lent = writes.asked.lent } in
+    let At : ℕ → Type 0 = λ place. ReadsAndWrites clock writes.asked writes.read (fetched_from place (seen_of new.reader)) writes.between writes.turned in
+    record {
+      early = writes.early;
+      between = writes.between;
+      first = writes.first;
+      asked = writes.asked;
+      same = subst Same is.sender writes.same;
+      parts = writes.parts;
+      read = writes.read;
+      turned = writes.turned;
+      reads = subst At is.place writes.reads;
+      last = writes.last;
+    }
+
 -- the turn of a stream that was told of a commit before it
 pub told_turn : {L : Type 0} (place here : ℕ) (work : Work) (old informed new : Walsender L) (seat seat_then seat_after : View) (before after : Option (List ℕ)) → HasLearnt old informed → seat_then ≡ seat → here ≡ place
     → Confirms work.flushed informed.sender.position here seat_then seat_after → StreamsOn informed new before after → Turn place work (standing old seat before) (standing new seat_after after)
@@ -52,20 +99,23 @@ told_turn place here work old informed new seat seat_then seat_after before afte
 
 -- what it answered, likewise
 pub told_answers : {L : Type 0} (work : Work) (old informed new : Walsender L) (seat seat_then seat_after : View) (before after : Option (List ℕ)) → HasLearnt old informed
-    → (work.phase ≡ phases.Closed) ⊎ (WritesFirst (informed.sender.held ++ keepalives informed.sender.position work.asked) informed before after × ReadsWhole informed new) → Answers work (standing old seat before) (standing new seat_after after)
+    → (work.phase ≡ phases.Closed) ⊎ WritesWhole work informed new before after → Answers work (standing old seat before) (standing new seat_after after)
 told_answers work old informed new seat seat_then seat_after before after is (inl over) = inl over
-told_answers work old informed new seat seat_then seat_after before after is (inr (first, reads)) = inr (
-  λ written serving.
-      let Seen : List Record → Type 0 = λ log. IsServing log old.reader.place written old.sender in
-      let At : ℕ → Type 0 = λ place. IsServing (seen_of informed.reader) place written old.sender in
-      let By : SenderState → Type 0 = λ s. IsServing (seen_of informed.reader) informed.reader.place written s in
-      let (more, appended) = first written (subst By (sym is.sender) (subst At (sym is.place) (subst Seen (sym is.seen) serving))) in
-      let Wrote : SenderState → Type 0 = λ s. Appends before after ((s.held ++ keepalives s.position work.asked) ++ more) in
-      (more, subst Wrote is.sender appended),
-  told_whole old informed new is reads,
-)
+told_answers work old informed new seat seat_then seat_after before after is (inr (first, writes, reads)) =
+    let Due : SenderState → Type 0 = λ s. WritesUnder work.clock ((s.held ++ keepalives s.position work.clock work.asked) ++ asking work.is_silent s.position work.clock) informed new before after in
+    inr (
+      λ written serving.
+          let Seen : List Record → Type 0 = λ log. IsServing log old.reader.place written old.sender in
+          let At : ℕ → Type 0 = λ place. IsServing (seen_of informed.reader) place written old.sender in
+          let By : SenderState → Type 0 = λ s. IsServing (seen_of informed.reader) informed.reader.place written s in
+          let (more, appended) = first written (subst By (sym is.sender) (subst At (sym is.place) (subst Seen (sym is.seen) serving))) in
+          let Wrote : SenderState → Type 0 = λ s. Appends before after (((s.held ++ keepalives s.position work.clock work.asked) ++ asking work.is_silent s.position work.clock) ++ more) in
+          (more, subst Wrote is.sender appended),
+      told_under work.clock (due_first work old) old informed new before after is (subst Due is.sender writes),
+      told_whole old informed new is reads,
+    )
 
--- one turn more behind others, all of which went well
+-- one turn more after others, all of which went well
 turns_more : {D L : Type 0} (told : D → Work → D → Type 0) (place : ℕ) (last : Work → Standing L → Standing L → Type 0) (first : Work) (works : List Work) (work : Work) (desk given after : D) (old between new : Standing L)
     → Turns told place Answers first works desk old given between → told given work after → Turn place work between new → last work between new → Turns told place last first (works ++ work ∷ []) desk old after new
 turns_more {D} {L} told place last first [] work desk given after old between new (no_more, turn, answered) gives one ends =

@@ -1,5 +1,5 @@
 -- What a connection makes of its stream.
-use Rattle.std.specs.Prelude.{◌≡◌, ◌⊎◌, ℕ, zero, suc, List, [], ◌++◌, None, Some, false}
+use Rattle.std.specs.Prelude.{◌≡◌, ◌⊎◌, ℕ, ℤ, zero, suc, List, [], ◌++◌, Bool, None, Some, true, false}
 use Rattle.std.specs.declared.option.Option.{Option}
 use Rattle.connections.specs.declared.words.Trouble.{Trouble}
 use Rattle.connections.specs.Troubles.{told_trouble}
@@ -12,16 +12,20 @@ use Rattle.replcmd.specs.declared.setting.StreamOptions.{StreamOptions}
 use Rattle.shared_log.specs.Readers.{seen_of}
 use Rattle.walsender.specs.declared.walsender.Walsender.{Walsender}
 use Rattle.walsender.specs.Serving.{Gives, GoesOn}
-use Rattle.hub.specs.declared.streaming.TheConstants.{CLOCK}
 
 -- what a START asks for: what its names select, with the messages of the log where its options ask for them
 abbrev pub asked_for : PublicationSet → List (List ℕ) → StreamOptions → PublicationSet
 asked_for publications names options = record (selected_publications publications names) { messages = options.messages }
 
--- so many keepalives, one behind the other, which don't ask for an answer
-abbrev pub keepalives : ℕ → ℕ → List ℕ
-keepalives position zero = []
-keepalives position (suc count) = keepalives position count ++ word_bytes (keepalive_word position CLOCK false)
+-- so many keepalives under one clock, one after the other, which don't ask for an answer
+abbrev pub keepalives : ℕ → ℤ → ℕ → List ℕ
+keepalives position clock zero = []
+keepalives position clock (suc count) = keepalives position clock count ++ word_bytes (keepalive_word position clock false)
+
+-- one that asks, for a client that is silent
+abbrev pub asking : Bool → ℕ → ℤ → List ℕ
+asking false position clock = []
+asking true position clock = word_bytes (keepalive_word position clock true)
 
 -- what a writer took goes on with the stream
 abbrev pub StreamsOn : {L : Type 0} → Walsender L → Walsender L → Option (List ℕ) → Option (List ℕ) → Type 0
@@ -32,7 +36,7 @@ abbrev pub words_of : Option Trouble → List ℕ
 words_of None = []
 words_of (Some trouble) = told_trouble trouble
 
--- what was held was written, and these words, if there are any, only behind all of it
+-- what was held was written, and these words, if there are any, only after all of it
 abbrev pub WordsBehind : {L : Type 0} → List ℕ → Walsender L → Walsender L → Option (List ℕ) → Option (List ℕ) → Type 0
 WordsBehind words old new before after = (given : List ℕ) × Gives given old new × ((words ≡ []) ⊎ (new.sender.held ≡ [])) × Appends before after (given ++ words)
 

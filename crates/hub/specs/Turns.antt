@@ -1,5 +1,5 @@
 -- What a stream does of the work that its connection brings, turn by turn, and what that leaves of its slot.
-use Rattle.std.specs.Prelude.{◌≡◌, ◌⊎◌, ℕ, List, [], ◌∷◌, ◌++◌, Option, Some, None, Result, Ok, Err, max, min}
+use Rattle.std.specs.Prelude.{◌≡◌, ◌⊎◌, ℕ, ℤ, false, List, [], ◌∷◌, ◌++◌, Option, Some, None, Result, Ok, Err, max, min}
 use mathlib.Core.List.{IsPrefix}
 use Rattle.std.specs.Io.KnownBytes.{Appends}
 use Rattle.shared_log.specs.Fronts.{settled_records}
@@ -10,7 +10,10 @@ use Rattle.slots.specs.declared.step.SlotKind.TheVariants.{Raise}
 use Rattle.slots.specs.declared.step.View.{View}
 use Rattle.server.specs.declared.connection.Phase.TheVariants as phases
 use Rattle.walsender.specs.declared.walsender.Walsender.{Walsender}
-use Rattle.walsender.specs.Serving.{Serves, WritesFirst}
+use Rattle.pgoutput.specs.Words.{word_bytes}
+use Rattle.pgoutput.specs.Items.{keepalive_word}
+use Rattle.walsender.specs.Sending.{SenderState}
+use Rattle.walsender.specs.Serving.{ReadsAndWrites, Serves, WritesFirst}
 use Rattle.walsender.specs.Turning.{fetched_from}
 use Rattle.walsender.specs.declared.fault.SendFault.TheVariants.{ArenaFull}
 use Rattle.walsender.specs.declared.turn_fault.TurnFault.{TurnFault}
@@ -20,7 +23,7 @@ use Rattle.connections.specs.declared.fault.ConnectionEnd.TheVariants as ends
 use Rattle.connections.specs.declared.words.Trouble.{Trouble}
 use Rattle.connections.specs.declared.words.Trouble.TheVariants as troubles
 use Rattle.connections.specs.declared.inbox.Work.{Work}
-use Rattle.hub.specs.Streams.{StreamsOn, keepalives}
+use Rattle.hub.specs.Streams.{StreamsOn, asking, keepalives}
 
 -- What a status brings is confirmed as far as was read: the slot is raised to it, unless it stands further.
 abbrev pub Confirms : Option ℕ → ℕ → ℕ → View → View → Type 0
@@ -46,19 +49,38 @@ pub record ReadsWhole {L : Type 0} (old new : Walsender L) : Type 0 where
   pub reads : new.sender.position ≡ end_of old.sender.position (fetched_from old.reader.place (seen_of new.reader))
   pub whole : new.sender.held ≡ []
 
--- It went well, unless the connection is over: what was held was written, and then a keepalive for each status that asked, before all else; and
--- all that could be read was read and written.
+-- All that it writes is under one clock: what is due before the log is read, of which a part may be held until then; what was read; and a
+-- keepalive after that, if there is one.
+pub record WritesUnder {L : Type 0} (clock : ℤ) (due : List ℕ) (old new : Walsender L) (before after : Option (List ℕ)) : Type 0 where
+  pub early : List ℕ
+  pub between : Option (List ℕ)
+  pub first : Appends before between early
+  pub asked : SenderState
+  pub same : asked ≡ record old.sender { held = asked.held; lent = asked.lent }
+  pub parts : early ++ asked.held ≡ due
+  pub read : SenderState
+  pub turned : Option (List ℕ)
+  pub reads : ReadsAndWrites clock asked read (fetched_from old.reader.place (seen_of new.reader)) between turned
+  pub last : (after ≡ turned) ⊎ Appends turned after (word_bytes (keepalive_word read.position clock false))
+
+-- what it is to write before all else: what was held, a keepalive for each status that asked, and one that asks a silent client
+abbrev pub due_first : {L : Type 0} → Work → Walsender L → List ℕ
+due_first work old = (old.sender.held ++ keepalives old.sender.position work.clock work.asked) ++ asking work.is_silent old.sender.position work.clock
+
+-- what it wrote under the work's clock, where it went well
+abbrev pub WritesWhole : {L : Type 0} → Work → Walsender L → Walsender L → Option (List ℕ) → Option (List ℕ) → Type 0
+WritesWhole work old new before after = WritesFirst (due_first work old) old before after × WritesUnder work.clock (due_first work old) old new before after × ReadsWhole old new
+
+-- It went well, unless the connection is over: what is due was written before all else, and all that could be read was read and written.
 abbrev pub Answers : {L : Type 0} → Work → Standing L → Standing L → Type 0
-Answers work old new =
-    (work.phase ≡ phases.Closed)
-    ⊎ (WritesFirst (old.walsender.sender.held ++ keepalives old.walsender.sender.position work.asked) old.walsender old.written new.written × ReadsWhole old.walsender new.walsender)
+Answers work old new = (work.phase ≡ phases.Closed) ⊎ WritesWhole work old.walsender new.walsender old.written new.written
 
 -- what is known of the last turn of a stream that ended so
 abbrev pub Ended : {L T E : Type 0} → Result T E → Work → Standing L → Standing L → Type 0
 Ended (Ok done) = Answers
 Ended (Err fault) = λ work old new. Unit {0}
 
--- A turn for the first work, and for each of those that a desk gave behind it, one after the other. All went well but perhaps the last.
+-- A turn for the first work, and for each of those that a desk gave after it, one after the other. All went well but perhaps the last.
 abbrev pub Turns : {D L : Type 0} → (D → Work → D → Type 0) → ℕ → (Work → Standing L → Standing L → Type 0) → Work → List Work → D → Standing L → D → Standing L → Type 0
 Turns told place last first [] desk old after new = (after ≡ desk) × Turn place first old new × last first old new
 Turns {D} {L} told place last first (work ∷ rest) desk old after new =
@@ -85,7 +107,7 @@ trouble_of ends.NoEntry = Some troubles.NoEntry
 trouble_of ends.Removed = Some troubles.Removed
 trouble_of end = None
 
--- How a stream ended whose last turn ended so: by that turn's fault; in order, where its client asked for that, with the last work's words behind
+-- How a stream ended whose last turn ended so: by that turn's fault; in order, where its client asked for that, with the last work's words after
 -- all that was written; or since its client is gone.
 abbrev pub EndsBy : Result Work TurnFault → Result (Unit {0}) ConnectionEnd → Option (List ℕ) → Option (List ℕ) → Type 0
 EndsBy (Err fault) ended before after = ended ≡ Err (end_of_fault fault)
@@ -101,7 +123,7 @@ EndsTurns {D} {L} told place first ended desk old after position seat written =
 abbrev pub WritesStream : {L : Type 0} → Standing L → Standing L → Type 0
 WritesStream old end = (given : List ℕ) × Serves (seen_of end.walsender.reader) given end.walsender × Appends old.written end.written given
 
--- What a stream leaves of its slot, what was written of it, and by what it ended: all that came was confirmed in its turn. Where the connection is over, so was the last work, behind which nothing comes.
+-- What a stream leaves of its slot, what was written of it, and by what it ended: all that came was confirmed in its turn. Where the connection is over, so was the last work, after which nothing comes.
 abbrev pub LeavesSlot : {D L : Type 0} → (D → Work → D → Type 0) → ℕ → Work → Result (Unit {0}) ConnectionEnd → D → Standing L → D → View → Option (List ℕ) → Type 0
 LeavesSlot {D} {L} told place first (Ok done) desk old after seat written =
     (end : Standing L) × (last : Result Work TurnFault) × TakesTurns told place (Ended last) first desk old after end × ∥ WritesStream old end ∥₁ × (seat ≡ end.seat) × EndsBy last (Ok done) end.written written

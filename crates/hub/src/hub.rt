@@ -141,8 +141,8 @@ impl<L: LogName + SlotName> Hub<L> {
         self.commons.ask_stream(rt, slot)
     }
 
-    /// Cuts the connection of the slot's stream, or of its next one, behind so many more bytes: in the middle of a frame, where they
-    /// end in one. Behind none it is cut at once, between two frames. The stream after that isn't cut. L1.
+    /// Cuts the connection of the slot's stream, or of its next one, after so many more bytes: in the middle of a frame, where they
+    /// end in one. After none it is cut at once, between two frames. The stream after that isn't cut. L1.
     pub fn cut_stream<R: Wait>(&self, rt: &R, slot: &str, bytes: u64) -> Result<(), SteerFault> {
         self.commons.cut_stream(rt, slot, bytes)
     }

@@ -1,6 +1,6 @@
 //! A stream on its way from the thread that begins it to the one that writes it.
 
-ghost use Rattle.std.specs.Prelude.{[], IfOk};
+ghost use Rattle.std.specs.Prelude.{[]};
 ghost use Rattle.shared_log.specs.Readers.{seen_of};
 ghost use Rattle.walsender.specs.Serving.{Serves};
 

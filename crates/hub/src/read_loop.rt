@@ -178,7 +178,7 @@ fn stop<L: LogName + SlotName, R: Wait + Clock, G: Gate>(
     post(read, state, said, phase)
 }
 
-/// Has the writing thread know of these words and of the phase behind them, unless it knows already.
+/// Has the writing thread know of these words and of the phase after them, unless it knows already.
 fn post<L: LogName + SlotName, R: Wait + Clock, G: Gate>(
     read: &ReadLoop<'_, L, R, G>,
     state: &mut ReadState,

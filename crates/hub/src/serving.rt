@@ -22,7 +22,7 @@ use std::time::Clock;
 /// told so (53300) and closed, and the gate is told why; so it is where the listener can't give one for now. Then the next is
 /// taken. One too many is heard out by a thread of its own before it is told, as long as few are. A failed read or write ends its
 /// connection alone, and the gate is told how each has ended. An error means that the listener gives no more; it is answered once
-/// the connections that were taken have ended. Behind `Hub::shut_down` none is taken, and the next that comes is closed without a
+/// the connections that were taken have ended. After `Hub::shut_down` none is taken, and the next that comes is closed without a
 /// word.
 pub fn serve<L, G, R>(
     rt: &R,

@@ -64,7 +64,7 @@ pub(crate) fn report<L: LogName + SlotName, R: Wait, G: Gate>(
     }
 }
 
-/// Adds to the work of a stream what it is told beside it. Where the server ends, what is left is sent, and CopyDone behind it.
+/// Adds to the work of a stream what it is told beside it. Where the server ends, what is left is sent, and CopyDone after it.
 fn steer<L: LogName + SlotName, R: Wait + Clock, G: Gate>(
     write: &WriteLoop<'_, L, R, G>,
     post: &SlotPost,

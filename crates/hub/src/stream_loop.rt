@@ -18,7 +18,7 @@ use std::io::Write;
 use std::sync::Wait;
 use walsender::{SendFault, TurnFault};
 
-/// Writes a stream, and behind it what is said at its end. Where its client did not ask for that, the connection is over, and
+/// Writes a stream, and after it what is said at its end. Where its client did not ask for that, the connection is over, and
 /// what the client flushed last is confirmed too: all that it sent has been read by then.
 pub(crate) fn write_stream<L: LogName + SlotName, R: Wait, D: WorkDesk<L>, W: Write>(
     rt: &R,
@@ -41,7 +41,7 @@ pub(crate) fn write_stream<L: LogName + SlotName, R: Wait, D: WorkDesk<L>, W: Wr
     ended
 }
 
-/// Writes a stream, and behind it what is said at its end, or why it ends.
+/// Writes a stream, and after it what is said at its end, or why it ends.
 fn write_to_end<L: LogName + SlotName, R: Wait, D: WorkDesk<L>, W: Write>(
     rt: &R,
     desk: &mut D,
@@ -59,7 +59,7 @@ fn write_to_end<L: LogName + SlotName, R: Wait, D: WorkDesk<L>, W: Write>(
     finish(stream, last, to)
 }
 
-/// Writes what is said behind the last turn of a stream, or why that failed.
+/// Writes what is said after the last turn of a stream, or why that failed.
 fn finish<L: LogName + SlotName, W: Write>(
     stream: &mut Stream<L>,
     last: Result<Work, TurnFault>,
@@ -114,7 +114,7 @@ fn run<L: LogName + SlotName, R: Wait, D: WorkDesk<L>, W: Write>(
     Ok(work)
 }
 
-/// Writes the words of what was taken. The connection may be over behind them.
+/// Writes the words of what was taken. The connection may be over after them.
 pub(crate) fn say<W: Write>(work: &Work, to: &mut W) -> Result<(), ConnectionEnd>
     ensures said { OnOk result
         (Appends (W.contents to.old) (W.contents to.new) work.now.said.items) }
@@ -126,7 +126,7 @@ pub(crate) fn say<W: Write>(work: &Work, to: &mut W) -> Result<(), ConnectionEnd
     Ok(())
 }
 
-/// Tells the client why its stream ends, behind what is held.
+/// Tells the client why its stream ends, after what is held.
 fn tell<L: LogName + SlotName, W: Write>(
     stream: &mut Stream<L>,
     end: ConnectionEnd,

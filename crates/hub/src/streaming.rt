@@ -1,6 +1,6 @@
 //! A stream that is written, with all that goes back at its end.
 
-ghost use Rattle.std.specs.Prelude.{◌≡◌, ◌⊎◌, ◌++◌, [], ℕ, List, max, min, OnOk};
+ghost use Rattle.std.specs.Prelude.{◌≡◌, ◌⊎◌, ◌++◌, [], ℕ, List, false, max, min, OnErr, OnOk};
 ghost use Rattle.std.specs.Io.KnownBytes.{Appends};
 ghost use Rattle.slots.specs.Rule.{slot_step, with_step};
 ghost use Rattle.slots.specs.Seats.{DidAt};
@@ -10,10 +10,11 @@ ghost use mathlib.Core.List.{IsPrefix};
 ghost use Rattle.shared_log.specs.Readers.{seen_of};
 ghost use Rattle.wal.specs.Log.{IsWellFormedLog};
 ghost use Rattle.wal.specs.declared.record.Record.{Record};
-ghost use Rattle.walsender.specs.Serving.{Gives, Serves, StaysOn, WritesFirst};
-ghost use Rattle.hub.specs.declared.streaming.TheConstants.{CLOCK};
-ghost use Rattle.hub.specs.Streams.{HasLearnt, StreamsOn, keepalives};
-ghost use Rattle.hub.specs.Turns.{Confirms, ReadsWhole};
+ghost use Rattle.walsender.specs.Serving.{Gives, Serves, StaysOn};
+ghost use Rattle.hub.specs.Streams.{HasLearnt, StreamsOn, asking, keepalives};
+ghost use Rattle.hub.specs.Turns.{Confirms, WritesWhole};
+ghost use Rattle.pgoutput.specs.Words.{word_bytes};
+ghost use Rattle.pgoutput.specs.Items.{keepalive_word};
 
 use crate::demand::ChunksNeeded;
 use crate::grant::StreamGrant;
@@ -26,9 +27,6 @@ use std::alloc::Global;
 use std::io;
 use std::io::Write;
 use walsender::{SendFault, TurnFault, Walsender};
-
-/// The clock of all that streams say.
-const CLOCK: i64 = 0;
 
 /// How many keepalives are held at once, of those that answer statuses.
 const MOST_KEEPALIVES: u32 = 256;
@@ -134,53 +132,60 @@ impl<L: LogName + SlotName> Stream<L> {
         ensures lease { self.new.hold.lease ≡ self.old.hold.lease }
         ensures answers { OnOk result
             ((work.now.phase ≡ Phase.Closed)
-            ⊎ (WritesFirst
-            (self.old.walsender.sender.held
-            ++ keepalives self.old.walsender.sender.position work.now.asked)
-            self.old.walsender (W.contents to.old) (W.contents to.new)
-            × ReadsWhole self.old.walsender self.new.walsender)) }
+            ⊎ WritesWhole work.now self.old.walsender self.new.walsender (W.contents to.old)
+            (W.contents to.new)) }
     {
         self.confirm_any(slots, work.flushed);
         if work.phase == Phase::Closed {
             return Ok(());
         }
-        self.answer_statuses(work.asked, to)?;
-        self.ask_if(work.is_silent)?;
-        self.walsender.turn(self.alloc, CLOCK, to)?;
-        self.tell_position(to)
+        let clock = work.clock;
+        self.answer_statuses(work.asked, clock, to)?;
+        self.ask_if(work.is_silent, clock)?;
+        self.walsender.turn(self.alloc, clock, to)?;
+        self.tell_position(clock, to)
     }
 
     /// Holds a keepalive that asks a silent client for an answer.
-    fn ask_if(&mut self, is_silent: bool) -> Result<(), SendFault>
+    fn ask_if(&mut self, is_silent: bool, clock: i64) -> Result<(), SendFault>
         ensures serves { StaysOn self.old.walsender self.new.walsender }
         ensures reader { self.new.walsender.reader ≡ self.old.walsender.reader }
         ensures position { self.new.walsender.sender.position ≡ self.old.walsender.sender.position }
         ensures hold { self.new.hold ≡ self.old.hold }
-        ensures held { (more : List ℕ)
-            × (self.new.walsender.sender.held ≡ self.old.walsender.sender.held ++ more) }
+        ensures held { OnOk result
+            (self.new.walsender.sender
+            ≡ record self.old.walsender.sender {
+              held = self.old.walsender.sender.held
+                  ++ asking is_silent self.old.walsender.sender.position clock;
+            }) }
+        ensures err { OnErr result (self.new.walsender.sender ≡ self.old.walsender.sender) }
     {
         if is_silent {
-            self.walsender.keepalive(CLOCK, true)?;
+            self.walsender.keepalive(clock, true)?;
         }
         Ok(())
     }
 
     /// Writes a keepalive where the client has flushed less than was read and wasn't told of it yet: it may be of transactions
     /// that aren't sent, and the client can confirm them all the same.
-    fn tell_position<W: Write>(&mut self, to: &mut W) -> Result<(), TurnFault>
+    fn tell_position<W: Write>(&mut self, clock: i64, to: &mut W) -> Result<(), TurnFault>
         ensures serves { StreamsOn self.old.walsender self.new.walsender (W.contents to.old)
             (W.contents to.new) }
         ensures reader { self.new.walsender.reader ≡ self.old.walsender.reader }
         ensures position { self.new.walsender.sender.position ≡ self.old.walsender.sender.position }
         ensures whole { self.old.walsender.sender.held ≡ [] →
             OnOk result (self.new.walsender.sender.held ≡ []) }
+        ensures says { self.old.walsender.sender.held ≡ [] → OnOk result
+            ((W.contents to.new ≡ W.contents to.old)
+            ⊎ Appends (W.contents to.old) (W.contents to.new)
+            (word_bytes (keepalive_word self.old.walsender.sender.position clock false))) }
         ensures hold { self.new.hold ≡ self.old.hold }
     {
         let position = self.walsender.position();
         if position <= self.flushed || position <= self.told {
             return Ok(());
         }
-        self.walsender.keepalive(CLOCK, false)?;
+        self.walsender.keepalive(clock, false)?;
         self.walsender.write_held(to)?;
         self.told = position;
         Ok(())
@@ -214,42 +219,52 @@ impl<L: LogName + SlotName> Stream<L> {
 
     /// Holds a keepalive for each of so many statuses that asked. What is held is written in between, so that few are held at
     /// once.
-    fn answer_statuses<W: Write>(&mut self, count: u32, to: &mut W) -> Result<(), TurnFault>
+    fn answer_statuses<W: Write>(
+        &mut self,
+        count: u32,
+        clock: i64,
+        to: &mut W,
+    ) -> Result<(), TurnFault>
         ensures kept { OnOk result
             ((given : List ℕ)
             × (given ++ self.new.walsender.sender.held
             ≡ self.old.walsender.sender.held
-            ++ keepalives self.old.walsender.sender.position count)
+            ++ keepalives self.old.walsender.sender.position clock count)
             × Appends (W.contents to.old) (W.contents to.new) given) }
         ensures serves { StreamsOn self.old.walsender self.new.walsender (W.contents to.old)
             (W.contents to.new) }
         ensures reader { self.new.walsender.reader ≡ self.old.walsender.reader }
-        ensures position { self.new.walsender.sender.position ≡ self.old.walsender.sender.position }
+        ensures rest { self.new.walsender.sender
+            ≡ record self.old.walsender.sender {
+              held = self.new.walsender.sender.held;
+              lent = self.new.walsender.sender.lent;
+            } }
         ensures hold { self.new.hold ≡ self.old.hold }
     {
         let mut due = count;
         while MOST_KEEPALIVES < due {
-            self.keep_alive(MOST_KEEPALIVES)?;
+            self.keep_alive(MOST_KEEPALIVES, clock)?;
             self.walsender.write_held(to)?;
             due -= MOST_KEEPALIVES;
         }
-        self.keep_alive(due)?;
+        self.keep_alive(due, clock)?;
         Ok(())
     }
 
-    /// Holds so many keepalives behind all that is held.
-    fn keep_alive(&mut self, count: u32) -> Result<(), SendFault>
+    /// Holds so many keepalives after all that is held.
+    fn keep_alive(&mut self, count: u32, clock: i64) -> Result<(), SendFault>
         ensures held { OnOk result
             (self.new.walsender.sender.held
             ≡ self.old.walsender.sender.held
-            ++ keepalives self.old.walsender.sender.position count) }
-        ensures position { self.new.walsender.sender.position ≡ self.old.walsender.sender.position }
+            ++ keepalives self.old.walsender.sender.position clock count) }
+        ensures rest { self.new.walsender.sender
+            ≡ record self.old.walsender.sender { held = self.new.walsender.sender.held } }
         ensures serves { StaysOn self.old.walsender self.new.walsender }
         ensures reader { self.new.walsender.reader ≡ self.old.walsender.reader }
         ensures hold { self.new.hold ≡ self.old.hold }
     {
         for _ in 0..count {
-            self.walsender.keepalive(CLOCK, false)?;
+            self.walsender.keepalive(clock, false)?;
         }
         Ok(())
     }

@@ -118,7 +118,7 @@ fn write_begun<L: LogName + SlotName, R: Wait + Clock, G: Gate>(
     write: &WriteLoop<'_, L, R, G>,
     post: &SlotPost,
     stream: &mut Stream<L>,
-    work: Work,
+    mut work: Work,
 ) -> Result<(), ConnectionEnd>
     requires { ∥ Serves (seen_of stream.old.walsender.reader) [] stream.old.walsender ∥₁ }
 {
@@ -135,6 +135,8 @@ fn write_begun<L: LogName + SlotName, R: Wait + Clock, G: Gate>(
     // What has woken it may be work, which waits for its first turn.
     commons.tell_work(rt, stream.latch());
     inform(rt, commons, stream);
+    // It may have been held for long since the work was taken.
+    work.clock = line.clock(rt);
     let mut desk = StreamDesk {
         write: WriteLoop {
             rt,

@@ -6,6 +6,7 @@ use std::net::{Net, SocketAddr, TcpListener, TcpStream};
 use std::sync::Wait;
 use std::thread;
 use std::thread::Threads;
+use std::time::Clock;
 
 /// Follows all tables and messages, through the four transactions and the note that the service commits.
 const ALL: Options<'static> = Options {
@@ -39,7 +40,7 @@ pub struct Followed {
 /// Both followers, side by side.
 pub fn follow_both<R>(rt: &R, alloc: Global, address: SocketAddr) -> Result<Followed, FollowFault>
 where
-    R: Net<Listener = TcpListener, Stream = TcpStream> + Threads + Wait + Sync,
+    R: Net<Listener = TcpListener, Stream = TcpStream> + Threads + Wait + Clock + Sync,
 {
     let (all, large) = thread::join(
         rt,
@@ -59,7 +60,7 @@ fn follow_one<R>(
     options: &Options<'_>,
 ) -> Result<Vec<u8>, FollowFault>
 where
-    R: Net<Listener = TcpListener, Stream = TcpStream> + Wait,
+    R: Net<Listener = TcpListener, Stream = TcpStream> + Wait + Clock,
 {
     let mut socket = TcpStream::connect(rt, address).map_err(FollowFault::Connection)?;
     let mut lines = Vec::new(alloc);

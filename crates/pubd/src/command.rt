@@ -60,6 +60,11 @@ const WORDS: [Word<'static>; 14] = [
         help: "Serve on where the standard input ends, with forever and -",
     },
     Word {
+        name: "end-on-sigterm",
+        form: WordForm::Flag,
+        help: "End at a SIGTERM as at the line end: for who starts pubd with that signal blocked, as env --block-signal=TERM does",
+    },
+    Word {
         name: "CONFIG",
         form: WordForm::Required,
         help: "A TOML file with the server, the tables and their publications",
@@ -122,6 +127,7 @@ fn words_in<'a>(alloc: Global, matches: &ArgMatches<'a>) -> Result<Words<'a>, Al
         answers_postgresql: matches.get_flag("answer-postgresql"),
         allows_start_ahead: matches.get_flag("allow-start-ahead"),
         keeps_serving: matches.get_flag("keep-serving"),
+        ends_on_sigterm: matches.get_flag("end-on-sigterm"),
         scripts: scripts_in(alloc, matches)?,
     })
 }

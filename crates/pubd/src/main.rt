@@ -14,6 +14,7 @@ mod questions;
 mod reports;
 mod scripting;
 mod scripts;
+mod sigterm;
 mod sizes;
 mod status_page;
 mod status_text;
@@ -39,9 +40,11 @@ use reports::Reports;
 use scripting::{Driven, InputLines, STANDARD_INPUT, Script, read_input, run_input, scripts_at};
 use scripts::{has_ended_server, run_all};
 use shared_log::LogName;
+use sigterm::{Watch, judge_blocked};
 use slots::SlotName;
 use status_page::serve_status;
 use std::alloc::{AllocError, Global};
+use std::fs::Files;
 use std::io::{Print, Stdin};
 use std::marker::Brand;
 use std::net::{Net, SocketAddr, TcpListener, TcpStream};
@@ -66,6 +69,7 @@ where
         + Threads
         + Wait
         + Clock
+        + Files
         + Eprint
         + Copy
         + Send
@@ -82,6 +86,7 @@ where
         + Threads
         + Wait
         + Clock
+        + Files
         + Eprint
         + Copy
         + Send
@@ -99,6 +104,7 @@ where
         + Threads
         + Wait
         + Clock
+        + Files
         + Eprint
         + Copy
         + Send
@@ -106,6 +112,9 @@ where
         + 'static,
 {
     let numbers = words.numbers()?;
+    if numbers.ends_on_sigterm {
+        judge_blocked(rt, rt.alloc())?;
+    }
     let scripts = scripts_at(rt, words.scripts.as_slice())?;
     let asked = Asked {
         config: words.config,
@@ -132,6 +141,7 @@ where
         + Threads
         + Wait
         + Clock
+        + Files
         + Eprint
         + Copy
         + Send
@@ -166,6 +176,7 @@ where
         + Threads
         + Wait
         + Clock
+        + Files
         + Eprint
         + Copy
         + Send
@@ -183,6 +194,7 @@ where
         scripts: asked.scripts,
         has_input: asked.has_input,
         ends_with_input: asked.has_input && asked.numbers.ends_with_input,
+        ends_on_sigterm: asked.numbers.ends_on_sigterm,
     };
     serve_configured(rt, host, asked, &service)
 }
@@ -198,6 +210,7 @@ where
         + Threads
         + Wait
         + Clock
+        + Files
         + Eprint
         + Copy
         + Send
@@ -281,6 +294,8 @@ struct Service<'a> {
     has_input: bool,
     /// Whether its end is that of the server.
     ends_with_input: bool,
+    /// Whether a SIGTERM that is left pending is too.
+    ends_on_sigterm: bool,
 }
 
 /// The log and the slots are named by the call. A hub must be closed, so whatever may fail stands in a call that borrows it.
@@ -293,7 +308,7 @@ fn served<L, R, O>(
 ) -> Result<(), Fault>
 where
     L: LogName + SlotName + Send + Sync,
-    R: Threads + Wait + Clock + Sync,
+    R: Threads + Wait + Clock + Files + Sync,
     O: Print,
     requires log { opened.log.history.seen.book ≡ L.book }
     requires slots { opened.slots.first.table_id ≡ L.table }
@@ -315,17 +330,46 @@ fn serve_beside_all<L, R, O>(
 ) -> Result<(), Fault>
 where
     L: LogName + SlotName + Send + Sync,
-    R: Threads + Wait + Clock + Sync,
+    R: Threads + Wait + Clock + Files + Sync,
     O: Print,
 {
     tell_doors(service.doors, output).map_err(Fault::Output)?;
     let ended_early = AtomicBool::new(false);
-    serve_beside(rt, hub, service, told, output, &ended_early)?;
+    serve_watched(rt, hub, service, told, output, &ended_early)?;
     if ended_early.load(Ordering::SeqCst) {
         told.line(rt, format_args!("pubd: {}", Fault::EndedEarly));
         return Err(Fault::EndedEarly);
     }
     Ok(())
+}
+
+/// Serves, and watches beside that for what ends the server from outside, where that is asked for.
+fn serve_watched<L, R, O>(
+    rt: &R,
+    hub: &Hub<L>,
+    service: &Service,
+    told: &Told,
+    output: &O,
+    early: &AtomicBool,
+) -> Result<(), AllocError>
+where
+    L: LogName + SlotName + Send + Sync,
+    R: Threads + Wait + Clock + Files + Sync,
+    O: Print,
+{
+    if !service.ends_on_sigterm {
+        return serve_beside(rt, hub, service, told, output, early);
+    }
+    let watch = &Watch::new();
+    thread::scope(thread::scope_env(), rt, |scope| {
+        let watched = scope.spawn(move || watch.watch(rt, hub, service.doors));
+        if !was_spawned(watched) {
+            return Err(AllocError);
+        }
+        let served = serve_beside(rt, hub, service, told, output, early);
+        watch.end(rt);
+        served
+    })
 }
 
 fn serve_beside<L, R, O>(

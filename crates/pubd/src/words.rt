@@ -30,6 +30,7 @@ pub struct Words<'a> {
     pub(crate) answers_postgresql: bool,
     pub(crate) allows_start_ahead: bool,
     pub(crate) keeps_serving: bool,
+    pub(crate) ends_on_sigterm: bool,
     pub scripts: Vec<&'a str>,
 }
 
@@ -52,6 +53,8 @@ pub struct Numbers {
     pub allows_start_ahead: bool,
     /// Whether the end of the standard input is that of the server, where lines come from there.
     pub ends_with_input: bool,
+    /// Whether a SIGTERM that is left pending ends the server in order.
+    pub ends_on_sigterm: bool,
 }
 
 impl<'a> Words<'a> {
@@ -75,6 +78,7 @@ impl<'a> Words<'a> {
             answers_postgresql: self.answers_postgresql,
             allows_start_ahead: self.allows_start_ahead,
             ends_with_input: self.connections == FOREVER && !self.keeps_serving,
+            ends_on_sigterm: self.ends_on_sigterm,
         })
     }
 

@@ -8,14 +8,14 @@ use std::alloc::Global;
 use std::net::{Net, SocketAddr, TcpListener, TcpStream};
 use std::sync::Wait;
 use std::thread;
-use std::time::Duration;
+use std::time::{Clock, Duration};
 
 /// For how many seconds a read waits. Then the server is asked whether it is there, and after as many more it is lost, as
 /// PostgreSQL's wal_receiver_timeout has it unless it is set.
 const PATIENCE: u64 = 30;
 
 /// Follows into the standard output.
-pub fn keep_printing<N: Net<Listener = TcpListener, Stream = TcpStream> + Wait>(
+pub fn keep_printing<N: Net<Listener = TcpListener, Stream = TcpStream> + Wait + Clock>(
     rt: &HostRuntime,
     net: &N,
     address: SocketAddr,
@@ -27,7 +27,7 @@ pub fn keep_printing<N: Net<Listener = TcpListener, Stream = TcpStream> + Wait>(
 }
 
 /// Follows into a file, from where it ends. What it holds counts.
-pub fn keep_in<N: Net<Listener = TcpListener, Stream = TcpStream> + Wait>(
+pub fn keep_in<N: Net<Listener = TcpListener, Stream = TcpStream> + Wait + Clock>(
     rt: &HostRuntime,
     net: &N,
     address: SocketAddr,
@@ -42,7 +42,7 @@ pub fn keep_in<N: Net<Listener = TcpListener, Stream = TcpStream> + Wait>(
 
 /// Goes on behind what the output holds, over one connection after the other, until all is printed. Each that was lost is told, with
 /// the pause behind it.
-fn keep_following<N: Net<Listener = TcpListener, Stream = TcpStream> + Wait, W: Output>(
+fn keep_following<N: Net<Listener = TcpListener, Stream = TcpStream> + Wait + Clock, W: Output>(
     rt: &HostRuntime,
     net: &N,
     address: SocketAddr,
@@ -67,7 +67,7 @@ fn keep_following<N: Net<Listener = TcpListener, Stream = TcpStream> + Wait, W: 
     unreachable!()
 }
 
-fn follow_once<N: Net<Listener = TcpListener, Stream = TcpStream> + Wait, W: Output>(
+fn follow_once<N: Net<Listener = TcpListener, Stream = TcpStream> + Wait + Clock, W: Output>(
     net: &N,
     alloc: Global,
     address: SocketAddr,

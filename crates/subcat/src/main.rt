@@ -21,13 +21,14 @@ use std::io::{BufWriter, Write};
 use std::net::{Net, SocketAddr, TcpListener, TcpStream};
 use std::process::ExitCode;
 use std::sync::Wait;
+use std::time::Clock;
 
 fn main(rt: HostRuntime) -> ExitCode {
     ended(&rt, run(&rt, &rt))
 }
 
 /// The runtime has the words and the output, and `net` the socket.
-fn run<N: Net<Listener = TcpListener, Stream = TcpStream> + Wait>(
+fn run<N: Net<Listener = TcpListener, Stream = TcpStream> + Wait + Clock>(
     rt: &HostRuntime,
     net: &N,
 ) -> Result<(), Fault> {
@@ -35,7 +36,7 @@ fn run<N: Net<Listener = TcpListener, Stream = TcpStream> + Wait>(
     run_called(rt, net, arguments.as_slice())
 }
 
-fn run_called<N: Net<Listener = TcpListener, Stream = TcpStream> + Wait>(
+fn run_called<N: Net<Listener = TcpListener, Stream = TcpStream> + Wait + Clock>(
     rt: &HostRuntime,
     net: &N,
     arguments: &[String],
@@ -50,7 +51,7 @@ fn run_called<N: Net<Listener = TcpListener, Stream = TcpStream> + Wait>(
     }
 }
 
-fn follow_at<N: Net<Listener = TcpListener, Stream = TcpStream> + Wait>(
+fn follow_at<N: Net<Listener = TcpListener, Stream = TcpStream> + Wait + Clock>(
     rt: &HostRuntime,
     net: &N,
     address: SocketAddr,
@@ -60,7 +61,7 @@ fn follow_at<N: Net<Listener = TcpListener, Stream = TcpStream> + Wait>(
     follow_into(net, rt.alloc(), address, options, &mut output)
 }
 
-fn follow_into<N: Net<Listener = TcpListener, Stream = TcpStream> + Wait, W: Write>(
+fn follow_into<N: Net<Listener = TcpListener, Stream = TcpStream> + Wait + Clock, W: Write>(
     net: &N,
     alloc: Global,
     address: SocketAddr,

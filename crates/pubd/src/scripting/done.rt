@@ -3,6 +3,7 @@
 use super::outcome::Done;
 use super::refusal::Refusal;
 use super::step::Steering;
+use clocks::clock_now;
 use hub::{Hub, SteerFault};
 use pqformat::Text;
 use schedule::{Answer, Event, SessionStep, Sessions, WorldFault};
@@ -12,9 +13,6 @@ use std::alloc::AllocError;
 use std::sync::{MutexGuard, Wait};
 use std::time::Clock;
 use txlog::Receipt;
-
-/// How many microseconds after the beginning of 1970 a commit's time is 0: at that of 2000.
-const FIRST_TIME: i64 = 946_684_800_000_000;
 
 pub(crate) fn steer<L: LogName + SlotName, R: Wait>(
     rt: &R,
@@ -34,7 +32,7 @@ pub(crate) fn steer<L: LogName + SlotName, R: Wait>(
     }
 }
 
-/// Commits the transaction of this name at the time of the clock.
+/// Commits the transaction of this name at the time of the clock, or at 0 where it can't be read.
 pub(crate) fn commit_now<L: LogName + SlotName, R: Wait + Clock>(
     rt: &R,
     hub: &Hub<L>,
@@ -42,18 +40,8 @@ pub(crate) fn commit_now<L: LogName + SlotName, R: Wait + Clock>(
     name: &Text,
 ) -> Result<Done, AllocError> {
     let name = name.copy(hub.alloc())?;
-    let event = Event::Session(name, SessionStep::Commit(now(rt)));
+    let event = Event::Session(name, SessionStep::Commit(clock_now(rt, 0)));
     do_event(rt, hub, sessions, &event)
-}
-
-/// The time of the clock in microseconds since 2000-01-01, and that one where it can't be read.
-fn now<R: Clock>(rt: &R) -> i64 {
-    match rt.since_1970() {
-        Ok(time) => i64::try_from(time.as_micros())
-            .unwrap_or(FIRST_TIME)
-            .saturating_sub(FIRST_TIME),
-        Err(_) => 0,
-    }
 }
 
 /// Does a session's line under the publisher's lock, and tells streams of its commit or its note.

@@ -5,7 +5,7 @@ pub loop-init : goal.loop-init
 loop-init g c = goes_nowhere _
 
 pub loop-preserved : goal.loop-preserved
-loop-preserved g c = goes_then _ _ _ c.loop.invariant c.take_next.ensures.goes
+loop-preserved g c = goes_then _ _ _ c.loop.invariant (rw c.tell_time.ensures at c.take_next.ensures.goes)
 
 pub returns-in_err-take_next-clause-goes : goal.returns-in_err-take_next-clause-goes
-returns-in_err-take_next-clause-goes g c = goes_then _ _ _ c.loop.invariant c.take_next.ensures.goes
+returns-in_err-take_next-clause-goes g c = goes_then _ _ _ c.loop.invariant (rw c.tell_time.ensures at c.take_next.ensures.goes)
