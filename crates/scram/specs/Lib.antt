@@ -9,3 +9,4 @@ pub mod Attributes
 pub mod ClientFirst
 pub mod ClientFinal
 pub mod Exchanges
+pub mod UserLines

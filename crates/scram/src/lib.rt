@@ -13,6 +13,7 @@ mod hmac;
 mod parts;
 mod pbkdf2;
 mod server_exchange;
+mod user_line;
 mod verifier;
 
 pub use account::Account;
@@ -20,4 +21,5 @@ pub use fault::{ExchangeFault, Malformed, VerifierFault};
 pub use hmac::{DIGEST_BYTES, hmac_sha256};
 pub use pbkdf2::salted_password;
 pub use server_exchange::Exchange;
+pub use user_line::line_of_user;
 pub use verifier::{ROUNDS, SALT_BYTES, Verifier};
