@@ -184,6 +184,7 @@ TEXTS = {
     "verifier_of": told("verifier_of"),
     "verifier": told("verifier"),
     "proved": told("proved"),
+    "login": told("login"),
     "text": fault_text,
     "code": code,
     "random": lambda given: conversations_alike(*map(int, given.split(" "))),

@@ -10,3 +10,5 @@ pub mod ClientFirst
 pub mod ClientFinal
 pub mod Exchanges
 pub mod UserLines
+pub mod Told
+pub mod Logins

@@ -49,6 +49,14 @@ pub enum Malformed {
 /// Why an exchange fails.
 #[derive(Clone, Copy, Debug, PartialEq, Eq)]
 pub enum ExchangeFault {
+    /// The name of the mechanism doesn't end.
+    NoMechanism,
+    /// The client chose a mechanism that isn't offered.
+    Mechanism,
+    /// The first message isn't there whole.
+    Short,
+    /// Something stands after it.
+    Trailing,
     Malformed(Malformed),
     /// The client wants to act for another user.
     AuthorizationIdentity,

@@ -10,15 +10,18 @@ mod coding;
 mod digest;
 mod fault;
 mod hmac;
+mod login;
 mod parts;
 mod pbkdf2;
 mod server_exchange;
+mod told;
 mod user_line;
 mod verifier;
 
 pub use account::Account;
 pub use fault::{ExchangeFault, Malformed, VerifierFault};
 pub use hmac::{DIGEST_BYTES, hmac_sha256};
+pub use login::{Asked, Login, MECHANISM, MOST_BODY_BYTES, Reply};
 pub use pbkdf2::salted_password;
 pub use server_exchange::Exchange;
 pub use user_line::line_of_user;

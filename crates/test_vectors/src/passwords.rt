@@ -4,7 +4,8 @@ use crate::answer::{bytes_of, tell_fault};
 use anyhow::{Result, bail};
 use pqformat::Items;
 use scram::{
-    Account, Exchange, ExchangeFault, Verifier, hmac_sha256, line_of_user, salted_password,
+    Account, Asked, Exchange, ExchangeFault, Login, Reply, Verifier, hmac_sha256, line_of_user,
+    salted_password,
 };
 use std::alloc::{AllocError, Global};
 
@@ -67,6 +68,50 @@ pub fn answer_proved(alloc: Global, given: &str, answer: &mut String) -> Result<
         Ok((challenge, signature)) => add_said(alloc, &challenge, &signature, answer),
         Err(fault) => write!(answer, "! {fault:?}"),
     }?)
+}
+
+/// `VERIFIER|NONCE|BODY|..`: what is said to messages with these bodies, which are in hexadecimal digits, up to the end of the login.
+pub fn answer_login(alloc: Global, given: &str, answer: &mut String) -> Result<()> {
+    let (verifier, rest) = given.split_once('|').unwrap_or((given, ""));
+    let (nonce, bodies) = rest.split_once('|').unwrap_or((rest, ""));
+    let nonce = Items::new(Vec::from_slice(alloc, nonce.as_bytes())?);
+    let account = account_of(alloc, verifier)?;
+    answer.push('=')?;
+    let mut login = Login::Offered(Asked { account, nonce });
+    for body in bodies.split('|') {
+        let body = bytes_of(alloc, body)?;
+        match login.answer(alloc, body.as_slice()) {
+            Ok(Reply::Continue(text, next)) => {
+                add_text(alloc, " continue ", text.as_slice(), answer)?;
+                login = next;
+            }
+            Ok(Reply::Final(text)) => {
+                return Ok(add_text(alloc, " final ", text.as_slice(), answer)?);
+            }
+            Err(fault) => return Ok(add_told(alloc, fault, answer)?),
+        }
+    }
+    drop(login);
+    Ok(())
+}
+
+fn add_text(
+    alloc: Global,
+    before: &str,
+    text: &[u8],
+    answer: &mut String,
+) -> Result<(), AllocError> {
+    let text = String::from_utf8_lossy(alloc, text)?;
+    write!(answer, "{before}{text}")
+}
+
+fn add_told(alloc: Global, fault: ExchangeFault, answer: &mut String) -> Result<(), AllocError> {
+    let (code, text) = fault.told();
+    write!(answer, " error {code} {text}")?;
+    match fault.detail(alloc)? {
+        Some(detail) => write!(answer, "; {detail}"),
+        None => Ok(()),
+    }
 }
 
 fn account_of(alloc: Global, verifier: &str) -> Result<Account> {

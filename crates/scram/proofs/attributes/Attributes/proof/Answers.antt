@@ -1,6 +1,7 @@
 use Rattle.std.proofs.Common.{◌≡◌, ◌-◌, ◌==◌, false, true, length, rules, arith, sym, ◌∙◌, ap}
+use Rattle.std.proofs.lemmas.Result.{err_from_is_err_and}
 use Rattle.scram.specs.Attributes.{proof_at}
-use Rattle.scram.proofs.Passing.{proof_passed, proof_found, no_proof}
+use Rattle.scram.proofs.Passing.{proof_passed, proof_found, proof_refused, no_proof}
 use Rattle.scram.proofs.attributes.Attributes.proof.Goals as goal
 
 pub returns-then-attribute-eq112 : goal.returns-then-attribute-eq112
@@ -18,3 +19,8 @@ pub returns : goal.returns
 returns c =
     let none : length c.self.inside.rest.now - c.loop-count._count ≡ 0 = omega arith in
     sym c.loop-count.invariant ∙ (ap (λ n. proof_at n c.loop-count.self) none ∙ no_proof c.loop-count.self)
+
+pub returns-in_err-attribute : goal.returns-in_err-attribute
+returns-in_err-attribute c =
+    let p = err_from_is_err_and c.from_residual.result c.from_residual.ensures.1 in
+    rw (p.1, p.2) (sym c.loop-count.invariant ∙ proof_refused (length c.self.inside.rest.now) c.loop-count._count c.loop-count.self c.in_err-attribute.field-0.0 (omega arith) c.in_err-attribute.ensures)
