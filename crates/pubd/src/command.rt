@@ -8,7 +8,7 @@ use command_line::{CommandLine, Word, WordForm, WordsFault};
 use std::alloc::{AllocError, Global};
 
 /// The words: those that may be left out, those that have to be there, and scripts.
-const WORDS: [Word<'static>; 13] = [
+const WORDS: [Word<'static>; 14] = [
     Word {
         name: "await-streams",
         form: WordForm::Option("N"),
@@ -53,6 +53,11 @@ const WORDS: [Word<'static>; 13] = [
         name: "keep-serving",
         form: WordForm::Flag,
         help: "Serve on where the standard input ends, with forever and -",
+    },
+    Word {
+        name: "password-of",
+        form: WordForm::Alone("NAME"),
+        help: "Read a password from the standard input, print what PostgreSQL keeps of it for the user NAME, and serve nothing",
     },
     Word {
         name: "CONFIG",
@@ -101,7 +106,7 @@ fn scripts_in<'a>(alloc: Global, matches: &ArgMatches<'a>) -> Result<Vec<&'a str
     Ok(scripts)
 }
 
-/// The first three are required, so they are there.
+/// The first three are required, so they are there, but where a password is asked for.
 fn words_in<'a>(alloc: Global, matches: &ArgMatches<'a>) -> Result<Words<'a>, AllocError> {
     Ok(Words {
         config: matches.get_str("CONFIG").unwrap_or(""),
@@ -116,6 +121,7 @@ fn words_in<'a>(alloc: Global, matches: &ArgMatches<'a>) -> Result<Words<'a>, Al
         answers_postgresql: matches.get_flag("answer-postgresql"),
         allows_start_ahead: matches.get_flag("allow-start-ahead"),
         keeps_serving: matches.get_flag("keep-serving"),
+        password_of: matches.get_str("password-of"),
         scripts: scripts_in(alloc, matches)?,
     })
 }

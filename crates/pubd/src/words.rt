@@ -28,6 +28,8 @@ pub struct Words<'a> {
     pub(crate) answers_postgresql: bool,
     pub(crate) allows_start_ahead: bool,
     pub(crate) keeps_serving: bool,
+    /// Of whom a password is read, and nothing is served.
+    pub password_of: Option<&'a str>,
     pub scripts: Vec<&'a str>,
 }
 
