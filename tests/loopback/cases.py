@@ -69,6 +69,7 @@ from large import (
     a_transaction_that_is_too_large_is_passed_once_it_is_undone,
 )
 from link import Link
+from passwords import a_name_or_password_that_is_none_is_refused, a_password_becomes_the_line_of_its_user
 from resuming import (
     a_refusal_for_good_ends_it,
     a_silent_server_is_asked_and_then_lost,
@@ -439,6 +440,8 @@ ALL = [
     a_wait_has_its_time,
     lines_that_steer_pass_one_that_waits,
     words_of_the_command_line_are_read,
+    a_password_becomes_the_line_of_its_user,
+    a_name_or_password_that_is_none_is_refused,
     closed_descriptors_are_nobody_s,
     nobody_waits_for_a_reader_of_what_is_told,
     a_stream_is_held_and_let_go,

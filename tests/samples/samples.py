@@ -136,6 +136,11 @@ def position_text(given):
     return [line_of("position", unquoted(given))], text_of
 
 
+def told(call):
+    """What the program says itself; a blank stands between what the call is given."""
+    return lambda given: ([line_of(call, *given.split(" "))], text_of)
+
+
 def status_frame(given):
     """The subscriber comes to the position by a keepalive."""
     place, clock, asks = given.split(" ")
@@ -174,6 +179,12 @@ TEXTS = {
     "publications": lambda given: published.publications(given.split(" ", 1)[0], toml_of(given.split(" ", 1)[1])),
     "explained": lambda given: published.explained(toml_of(given)),
     "status": status_frame,
+    "hmac": told("hmac"),
+    "hi": told("hi"),
+    "verifier_of": told("verifier_of"),
+    "verifier": told("verifier"),
+    "proved": told("proved"),
+    "login": told("login"),
     "text": fault_text,
     "code": code,
     "random": lambda given: conversations_alike(*map(int, given.split(" "))),

@@ -39,6 +39,8 @@ pub enum WordForm<'a> {
     Flag,
     /// As `--name VALUE`, for this VALUE.
     Option(&'a str),
+    /// The same, and then no other word may be there, nor has to.
+    Alone(&'a str),
 }
 
 impl<'a> CommandLine<'a> {
@@ -81,6 +83,11 @@ fn arg_of<'a>(alloc: Global, word: &Word<'a>) -> Arg<'a> {
         WordForm::Repeated => arg.num_args(0..).action(ArgAction::Append),
         WordForm::Flag => arg.long(word.name).action(ArgAction::SetTrue),
         WordForm::Option(value) => arg.long(word.name).value_name(value).action(ArgAction::Set),
+        WordForm::Alone(value) => arg
+            .long(word.name)
+            .value_name(value)
+            .exclusive(true)
+            .action(ArgAction::Set),
     }
 }
 

@@ -8,7 +8,7 @@ use command_line::{CommandLine, Word, WordForm, WordsFault};
 use std::alloc::{AllocError, Global};
 
 /// The words: those that may be left out, those that have to be there, and scripts.
-const WORDS: [Word<'static>; 14] = [
+const WORDS: [Word<'static>; 16] = [
     Word {
         name: "await-streams",
         form: WordForm::Option("N"),
@@ -65,6 +65,11 @@ const WORDS: [Word<'static>; 14] = [
         help: "End at a SIGTERM as at the line end: for who starts pubd with that signal blocked, as env --block-signal=TERM does",
     },
     Word {
+        name: "password-of",
+        form: WordForm::Alone("NAME"),
+        help: "Read a password from the standard input, print what PostgreSQL keeps of it for the user NAME, and serve nothing",
+    },
+    Word {
         name: "CONFIG",
         form: WordForm::Required,
         help: "A TOML file with the server, the tables and their publications",
@@ -111,7 +116,7 @@ fn scripts_in<'a>(alloc: Global, matches: &ArgMatches<'a>) -> Result<Vec<&'a str
     Ok(scripts)
 }
 
-/// The first three are required, so they are there.
+/// The first three are required, so they are there, but where a password is asked for.
 fn words_in<'a>(alloc: Global, matches: &ArgMatches<'a>) -> Result<Words<'a>, AllocError> {
     Ok(Words {
         config: matches.get_str("CONFIG").unwrap_or(""),
@@ -128,6 +133,7 @@ fn words_in<'a>(alloc: Global, matches: &ArgMatches<'a>) -> Result<Words<'a>, Al
         allows_start_ahead: matches.get_flag("allow-start-ahead"),
         keeps_serving: matches.get_flag("keep-serving"),
         ends_on_sigterm: matches.get_flag("end-on-sigterm"),
+        password_of: matches.get_str("password-of"),
         scripts: scripts_in(alloc, matches)?,
     })
 }

@@ -1,6 +1,7 @@
 //! Why the program served nothing, or not to its end, and with which status it then ends.
 
 use crate::command_fault::CommandFault;
+use crate::password::PasswordFault;
 use crate::scripting::ScriptFileFault;
 use command_line::{Ending, WordsFault};
 use configuration::ConfigFileFault;
@@ -17,6 +18,8 @@ pub enum Fault {
     Config(#[from] ConfigFileFault),
     #[error("{0}")]
     Script(#[from] ScriptFileFault),
+    #[error("{0}")]
+    Password(#[from] PasswordFault),
     #[error("{0}")]
     Hub(HubFault),
     #[error("no name can be chosen for the system: {0}")]
@@ -43,9 +46,11 @@ impl Ending for Fault {
             Fault::Command(fault) => fault.status(),
             Fault::Config(fault) if fault.is_bad_configuration() => 2,
             Fault::Script(fault) if fault.is_bad_script() => 2,
+            Fault::Password(fault) if fault.is_bad_input() => 2,
             Fault::Hub(HubFault::LongName) | Fault::SignalUnblocked => 2,
             Fault::Config(_)
             | Fault::Script(_)
+            | Fault::Password(_)
             | Fault::Hub(HubFault::Memory)
             | Fault::System(_)
             | Fault::Signals(_)

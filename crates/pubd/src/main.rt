@@ -10,6 +10,7 @@ mod help;
 mod level;
 mod log_watch;
 mod naming;
+mod password;
 mod questions;
 mod reports;
 mod scripting;
@@ -35,6 +36,7 @@ use fault::Fault;
 use hub::{Hub, HubSettings, OpenedHub, serve};
 use level::Level;
 use naming::system_name;
+use password::tell_password;
 use questions::Questions;
 use reports::Reports;
 use scripting::{Driven, InputLines, STANDARD_INPUT, Script, read_input, run_input, scripts_at};
@@ -94,7 +96,10 @@ where
         + 'static,
 {
     let words = words_of(rt.alloc(), arguments)?;
-    run_words(rt, host, &words)
+    match words.password_of {
+        Some(name) => Ok(tell_password(rt, name)?),
+        None => run_words(rt, host, &words),
+    }
 }
 
 /// All that can be refused is judged before the first connection is taken.

@@ -31,6 +31,8 @@ pub struct Words<'a> {
     pub(crate) allows_start_ahead: bool,
     pub(crate) keeps_serving: bool,
     pub(crate) ends_on_sigterm: bool,
+    /// Of whom a password is read, and nothing is served.
+    pub password_of: Option<&'a str>,
     pub scripts: Vec<&'a str>,
 }
 

@@ -6,6 +6,9 @@ use crate::fault_texts::{answer_codes, answer_texts};
 use crate::fields::answer_field;
 use crate::filters::answer_filter;
 use crate::framing::{answer_back, answer_front, answer_startup};
+use crate::passwords::{
+    answer_hi, answer_hmac, answer_login, answer_proved, answer_verifier, answer_verifier_of,
+};
 use crate::publishing::{answer_explained, answer_published};
 use crate::subscriber::{answer_applied, answer_render, answer_status};
 use crate::talk::answer_talk;
@@ -28,6 +31,12 @@ pub fn answer_call(alloc: Global, call: &str, given: &str, answer: &mut String) 
         "event" => answer_event(alloc, given, answer),
         "catalog" => answer_catalog(alloc, given, answer),
         "config" => answer_config(alloc, given, answer),
+        "hmac" => answer_hmac(alloc, given, answer),
+        "hi" => answer_hi(alloc, given, answer),
+        "verifier_of" => answer_verifier_of(alloc, given, answer),
+        "verifier" => answer_verifier(alloc, given, answer),
+        "proved" => answer_proved(alloc, given, answer),
+        "login" => answer_login(alloc, given, answer),
         _ => answer_digits(alloc, call, given, answer),
     }
 }

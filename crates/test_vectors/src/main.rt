@@ -12,6 +12,7 @@ mod fault_texts;
 mod fields;
 mod filters;
 mod framing;
+mod passwords;
 mod publishing;
 mod scripted_desk;
 mod subscriber;

@@ -1,0 +1,4 @@
+mod Rounds
+mod Differences
+mod Passing
+mod Failing

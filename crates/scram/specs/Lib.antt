@@ -1,0 +1,14 @@
+pub mod Hmac
+pub mod Hi
+pub mod Parts
+pub mod Coding
+pub mod Digests
+pub mod Keys
+pub mod Verifiers
+pub mod Attributes
+pub mod ClientFirst
+pub mod ClientFinal
+pub mod Exchanges
+pub mod UserLines
+pub mod Told
+pub mod Logins
