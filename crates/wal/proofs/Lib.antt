@@ -2,6 +2,7 @@ pub mod Bodies
 pub mod Growing
 pub mod Laws
 pub mod Lists
+pub mod Moving
 pub mod LiveChanges
 pub mod Places
 pub mod Restarts

@@ -7,6 +7,6 @@ mod record;
 mod slices;
 
 pub use logged::LoggedChange;
-pub use reading::{a_log_has_one_reading, a_start_may_skip};
+pub use reading::{a_log_has_one_reading, a_restart_moves_forward, a_start_may_skip};
 pub use record::{Body, FIRST_POSITION, FIRST_XID, Record};
 pub use slices::part;

@@ -1,6 +1,6 @@
 //! The law of logs: read record by record, a log says what the whole of it says by places.
 
-ghost use Rattle.std.specs.Prelude.{◌≡◌, ◌++◌, ℕ, List, take};
+ghost use Rattle.std.specs.Prelude.{◌≡◌, ◌≤◌, ◌++◌, ℕ, List, take};
 ghost use Rattle.wal.specs.declared.record.Record.{Record};
 ghost use Rattle.wal.specs.Log.{IsWellFormedLog, chain, committed_transactions};
 ghost use Rattle.wal.specs.Places.{IsChain, SkipsNone, committed_by_places};
@@ -30,4 +30,11 @@ pub fn a_log_has_one_reading()
 pub fn a_start_may_skip()
     ensures { (log more : List Record) (s : ℕ) → IsWellFormedLog (log ++ more) →
         SkipsNone (log ++ more) s (take (restart_place s log) log) }
+{}
+
+/// The place from which a stream reads never goes back: neither for a later start position, nor as the log goes on. So what stands
+/// before the restart place of the position that a follower has confirmed is needed for no later one of its positions.
+pub fn a_restart_moves_forward()
+    ensures { (log more : List Record) (s t : ℕ) → IsWellFormedLog (log ++ more) → s ≤ t →
+        restart_place s log ≤ restart_place t (log ++ more) }
 {}
