@@ -9,7 +9,8 @@ use Rattle.std.specs.Fmt.{signed_decimal}
 use Rattle.std.specs.Str.Parse.{AllDigits}
 use Rattle.replcmd.specs.Position.{SpellsPosition, position_text}
 use Rattle.replcmd.proofs.Halves.{printed_is_read}
-use Rattle.follower.specs.TextLines.{HasNoBlank, commit_text}
+use Rattle.follower.specs.TextLines.{HasNoBlank}
+use Rattle.message_lines.specs.Texts.{commit_text}
 
 no_blank : (c : ℕ) → digit_value c < 16 → c ≢ 32
 no_blank c digit = λ is. absurd (blank_is_none (subst (λ (d : ℕ). digit_value d < 16) is digit))

@@ -7,3 +7,4 @@ pub mod Retrying
 pub mod Standing
 pub mod TextLines
 pub mod Told
+pub mod Lines

@@ -1,8 +1,7 @@
 -- What a line of text tells.
-use Rattle.std.specs.Prelude.{◌≡◌, ◌≢◌, ◌⊎◌, ℕ, ℤ, ◌+◌, ◌<◌, ◌||◌, Bool, List, [], ◌∷◌, ◌++◌, length, get_or, nat_eq, codes}
-use Rattle.std.specs.Fmt.{signed_decimal}
+use Rattle.std.specs.Prelude.{◌≡◌, ◌≢◌, ◌⊎◌, ℕ, ◌+◌, ◌<◌, ◌||◌, Bool, List, [], ◌∷◌, ◌++◌, length, get_or, nat_eq, codes}
 use Rattle.std.specs.List.{starts_with}
-use Rattle.replcmd.specs.Position.{SpellsPosition, position_text}
+use Rattle.replcmd.specs.Position.{SpellsPosition}
 use Rattle.message_lines.specs.Fronts.{begins}
 
 -- it is the first of a transaction, or a note, as far as it is there
@@ -12,12 +11,13 @@ text_begins line = begins line (codes "BEGIN ") || begins line (codes "MESSAGE 0
 abbrev pub text_is_note : List ℕ → Bool
 text_is_note line = starts_with nat_eq line (codes "MESSAGE 0 ")
 
--- what is printed of a Commit, without the line's end
-abbrev pub commit_text : (start end : ℕ) → (time : ℤ) → List ℕ
-commit_text start end time = codes "COMMIT " ++ (position_text start ++ (32 ∷ (position_text end ++ (32 ∷ signed_decimal time))))
-
 abbrev pub HasNoBlank : List ℕ → Type 0
 HasNoBlank text = (i : ℕ) → i < length text → get_or text i 0 ≢ 32
+
+-- it tells a change of a table
+abbrev pub text_is_change : List ℕ → Bool
+text_is_change line =
+    starts_with nat_eq line (codes "INSERT ") || (starts_with nat_eq line (codes "UPDATE ") || (starts_with nat_eq line (codes "DELETE ") || starts_with nat_eq line (codes "TRUNCATE ")))
 
 -- It is a Commit's: where its record starts, where its transaction ends, and its time.
 pub record TellsCommit (line : List ℕ) (end : ℕ) : Type 0 where

@@ -1,7 +1,9 @@
 //! What an output holds of earlier runs, told line by line: where the next one goes on.
 
-ghost use Rattle.std.specs.Prelude.{◌≡◌, None, false};
+ghost use Rattle.std.specs.Prelude.{◌≡◌, None, false, OnErr, OnOk};
 ghost use Rattle.follower.specs.Kept.{more_by, with_line};
+ghost use Rattle.follower.specs.Lines.{IsLineOf};
+ghost use Rattle.follower.specs.declared.line.Line.{Line as ToldLine};
 
 use crate::form::Form;
 use crate::line::Line;
@@ -49,7 +51,11 @@ impl Kept {
     }
 
     /// Takes the next line of this form, with its end if it has one.
-    pub fn take(&mut self, alloc: Global, form: Form, text: &[u8]) -> Result<(), AllocError> {
+    pub fn take(&mut self, alloc: Global, form: Form, text: &[u8]) -> Result<(), AllocError>
+        ensures ok { OnOk result
+            ((line : ToldLine) × IsLineOf form text.now line × (self.new ≡ with_line self.old line)) }
+        ensures err { OnErr result (self.new ≡ self.old) }
+    {
         let line = Line::of(alloc, form, text)?;
         self.count(&line);
         Ok(())

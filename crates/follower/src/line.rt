@@ -1,5 +1,8 @@
 //! A line of an output, as far as it tells where a run goes on.
 
+ghost use Rattle.std.specs.Prelude.{IfOk};
+ghost use Rattle.follower.specs.Lines.{IsLineOf};
+
 use crate::form::Form;
 use crate::json_form::json_line;
 use crate::text_form::text_line;
@@ -21,7 +24,9 @@ pub(crate) struct Line {
 
 impl Line {
     /// What a line of this form tells.
-    pub(crate) fn of(alloc: Global, form: Form, text: &[u8]) -> Result<Self, AllocError> {
+    pub(crate) fn of(alloc: Global, form: Form, text: &[u8]) -> Result<Self, AllocError>
+        ensures { IfOk result (λ line. IsLineOf form text.now line) }
+    {
         match form {
             Form::Text => Ok(text_line(text)),
             Form::Json => json_line(alloc, text),

@@ -1,5 +1,7 @@
 //! What the frames of a stream hold, with the faults of those that hold nothing, and what is printed of it.
 
+ghost use Rattle.std.specs.Prelude.{◌≡◌};
+
 use crate::fault::{FollowFault, told};
 use client::{Applied, ClientFault};
 use copyboth::{ServerBody, read_server};
@@ -55,7 +57,10 @@ pub(crate) fn begin_of(transaction: &Applied) -> Begin {
 }
 
 /// The message with which it ended.
-pub(crate) fn commit_of(transaction: &Applied) -> Commit {
+pub(crate) fn commit_of(transaction: &Applied) -> Commit
+    ensures { (result.position ≡ transaction.now.start) × (result.end ≡ transaction.now.end)
+        × (result.time ≡ transaction.now.time) }
+{
     Commit {
         position: transaction.start,
         end: transaction.end,

@@ -7,7 +7,8 @@ ghost use Rattle.std.specs.Fmt.{signed_decimal};
 ghost use Rattle.std.specs.List.{starts_with};
 ghost use Rattle.replcmd.specs.Position.{SpellsPosition};
 ghost use Rattle.message_lines.specs.Fronts.{begins};
-ghost use Rattle.follower.specs.TextLines.{HasNoBlank, TellsCommit, TellsEnd, TellsNoteBefore, commit_text, text_begins, text_is_note};
+ghost use Rattle.message_lines.specs.Texts.{commit_text};
+ghost use Rattle.follower.specs.TextLines.{HasNoBlank, TellsCommit, TellsEnd, TellsNoteBefore, text_begins, text_is_change, text_is_note};
 
 use crate::line::Line;
 use crate::whole::whole;
@@ -36,6 +37,7 @@ pub(crate) fn text_line(text: &[u8]) -> Line
     ensures length { result.length ≡ length text.now }
     ensures begins { result.begins ≡ text_begins text.now }
     ensures note { result.is_note ≡ text_is_note text.now }
+    ensures change { result.is_change ≡ text_is_change text.now }
     // What ends something is whole, and tells it.
     ensures end { IfSome result.end (λ end. TellsEnd text.now end) }
     // Of what is printed of a Commit, its end.
@@ -52,7 +54,9 @@ pub(crate) fn text_line(text: &[u8]) -> Line
     }
 }
 
-fn is_change(text: &[u8]) -> bool {
+fn is_change(text: &[u8]) -> bool
+    ensures { result ≡ text_is_change text.now }
+{
     starts(text, INSERT) || starts(text, UPDATE) || starts(text, DELETE) || starts(text, TRUNCATE)
 }
 

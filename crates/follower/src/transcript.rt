@@ -1,5 +1,8 @@
 //! Transactions as lines of text, and the tables that were told before them.
 
+ghost use Rattle.std.specs.Prelude.{◌≡◌, ◌++◌, ◌∷◌, [], List, ℕ, OnOk, false};
+ghost use Rattle.message_lines.specs.Texts.{IsTextOf, commit_text};
+
 use crate::streamed::{begin_of, commit_of};
 use client::Applied;
 use indexmap::IndexMap;
@@ -59,7 +62,14 @@ impl Transcript {
         &mut self,
         transaction: &Applied,
         lines: &mut Vec<u8>,
-    ) -> Result<(), AllocError> {
+    ) -> Result<(), AllocError>
+        // What is printed of a transaction ends by the line of its Commit.
+        ensures { OnOk result (transaction.now.is_note ≡ false → (front : List ℕ)
+            × (lines.new.items
+            ≡ front
+            ++ (commit_text transaction.now.start transaction.now.end transaction.now.time
+            ++ 10 ∷ []))) }
+    {
         if transaction.is_note {
             return self.add_changes(transaction, lines);
         }
@@ -68,7 +78,10 @@ impl Transcript {
         self.add_message(Logical::Commit(commit_of(transaction)), lines)
     }
 
-    fn add_message(&self, message: Logical, lines: &mut Vec<u8>) -> Result<(), AllocError> {
+    fn add_message(&self, message: Logical, lines: &mut Vec<u8>) -> Result<(), AllocError>
+        ensures { OnOk result ((text : List ℕ) × IsTextOf message text
+            × (lines.new.items ≡ lines.old.items ++ (text ++ 10 ∷ []))) }
+    {
         let line = render(self.alloc, &message);
         drop(message);
         add_line(lines, line?.as_str())
@@ -116,7 +129,9 @@ impl Transcript {
     }
 }
 
-fn add_line(lines: &mut Vec<u8>, line: &str) -> Result<(), AllocError> {
+fn add_line(lines: &mut Vec<u8>, line: &str) -> Result<(), AllocError>
+    ensures { OnOk result (lines.new.items ≡ lines.old.items ++ (line.now ++ 10 ∷ [])) }
+{
     lines.extend_from_slice(line.as_bytes())?;
     lines.push(b'\n')?;
     Ok(())

@@ -1,6 +1,7 @@
 -- What a connection makes of its stream.
-use Rattle.std.specs.Prelude.{◌≡◌, ◌⊎◌, ℕ, ℤ, zero, suc, List, [], ◌++◌, Bool, None, Some, true, false}
+use Rattle.std.specs.Prelude.{◌≡◌, ◌⊎◌, ℕ, ℤ, ◌≤◌, zero, suc, List, [], ◌++◌, length, replicate, Bool, None, Some, true, false}
 use Rattle.std.specs.declared.option.Option.{Option}
+use Rattle.chgarena.specs.Strands.{Strands as Arena}
 use Rattle.connections.specs.declared.words.Trouble.{Trouble}
 use Rattle.connections.specs.Troubles.{told_trouble}
 use Rattle.std.specs.Io.KnownBytes.{Appends}
@@ -16,6 +17,11 @@ use Rattle.walsender.specs.Serving.{Gives, GoesOn}
 -- what a START asks for: what its names select, with the messages of the log where its options ask for them
 abbrev pub asked_for : PublicationSet → List (List ℕ) → StreamOptions → PublicationSet
 asked_for publications names options = record (selected_publications publications names) { messages = options.messages }
+
+-- An arena without strands, of as many chunks as a hub's settings say; where the slot's last stream found them full, it may have more.
+abbrev pub HasChunksSet : (chunks : ℕ) → (was_full : Bool) → Arena → Type 0
+HasChunksSet chunks was_full arena =
+    (arena ≡ replicate (length arena) None) × (chunks ≤ length arena) × (was_full ≡ false → length arena ≡ chunks)
 
 -- so many keepalives under one clock, one after the other, which don't ask for an answer
 abbrev pub keepalives : ℕ → ℤ → ℕ → List ℕ

@@ -1,11 +1,11 @@
 //! What a START was granted, before its stream.
 
-ghost use Rattle.std.specs.Prelude.{◌≡◌, ℕ, ◌<◌, IfOk, OnOk, max, take};
+ghost use Rattle.std.specs.Prelude.{◌≡◌, ℕ, ◌<◌, ◌≤◌, IfOk, OnOk, None, false, length, max, replicate, take};
 ghost use Rattle.shared_log.specs.Readers.{seen_of};
 ghost use Rattle.wal.specs.Log.{IsWellFormedLog};
 ghost use Rattle.wal.specs.Restart.{restart, restart_place};
 ghost use Rattle.hub.specs.declared.grant.TheConstants.{LIMIT};
-ghost use Rattle.hub.specs.Streams.{asked_for};
+ghost use Rattle.hub.specs.Streams.{HasChunksSet, asked_for};
 ghost use Rattle.slots.specs.Rule.{slot_step, with_step};
 ghost use Rattle.slots.specs.Standings.{held_by};
 ghost use Rattle.slots.specs.declared.step.SlotKind.TheVariants.{Claim, Read};
@@ -40,7 +40,10 @@ pub(crate) struct Means<'a> {
 
 impl<'a> Means<'a> {
     /// How many chunks the arena has, of a stream that starts there. The reader is left anywhere.
-    fn chunks_from<L: LogName>(&self, reader: &mut LogReader<L>, start: u64) -> u32 {
+    fn chunks_from<L: LogName>(&self, reader: &mut LogReader<L>, start: u64) -> u32
+        ensures least { self.now.chunks ≤ result }
+        ensures set { self.now.was_full ≡ false → result ≡ self.now.chunks }
+    {
         if !self.was_full {
             return self.chunks;
         }
@@ -53,8 +56,9 @@ impl<'a> Means<'a> {
     /// With an arena of so many chunks. Only memory refuses it, once the publications are judged.
     fn make(&self, chunks: u32) -> Result<(Selection, Arena), PubFault>
         ensures { IfOk result
-            (λ made. made.0
-            ≡ asked_for self.now.publications.now self.now.names.now self.now.options.now) }
+            (λ made. (made.0
+            ≡ asked_for self.now.publications.now self.now.names.now self.now.options.now)
+            × (made.1 ≡ replicate chunks None)) }
     {
         let selection = self.publications.select(self.names)?;
         match Arena::new(self.alloc, chunks as usize) {
@@ -85,6 +89,8 @@ impl<'a> Means<'a> {
         ensures selection { IfOk result
             (λ b. b.selection
             ≡ asked_for self.now.publications.now self.now.names.now self.now.options.now) }
+        ensures arena { IfOk result
+            (λ b. HasChunksSet self.now.chunks self.now.was_full b.arena) }
         ensures place { IfOk result
             (λ b. reader.new.place ≡ restart_place b.start (take LIMIT (seen_of reader.new))) }
         ensures first { IfOk result
@@ -136,6 +142,7 @@ pub(crate) struct StreamGrant<L: LogName + SlotName> {
     ghost place: { reader.place ≡ restart_place start (take LIMIT (seen_of reader)) },
     ghost begins: { first ≡ restart start (take LIMIT (seen_of reader)) },
     ghost good: { ∥ IsWellFormedLog (seen_of reader) ∥₁ },
+    ghost empty: { arena ≡ replicate (length arena) None },
 }
 
 impl<L: LogName + SlotName> StreamGrant<L> {
@@ -161,6 +168,8 @@ impl<L: LogName + SlotName> StreamGrant<L> {
         ensures selection { IfOk result
             (λ b. b.selection
             ≡ asked_for means.now.publications.now means.now.names.now means.now.options.now) }
+        ensures arena { IfOk result
+            (λ b. HasChunksSet means.now.chunks means.now.was_full b.arena) }
     {
         let Pair {
             mut reader,

@@ -1,7 +1,8 @@
 //! A stream on its way from the thread that begins it to the one that writes it.
 
-ghost use Rattle.std.specs.Prelude.{[]};
+ghost use Rattle.std.specs.Prelude.{[], IfOk, length};
 ghost use Rattle.shared_log.specs.Readers.{seen_of};
+ghost use Rattle.walsender.specs.Sending.{HasChunks};
 ghost use Rattle.walsender.specs.Serving.{Serves};
 
 use crate::grant::StreamGrant;
@@ -18,7 +19,10 @@ pub(crate) struct NewStream<L: LogName + SlotName> {
 
 impl<L: LogName + SlotName> NewStream<L> {
     /// The stream of a grant. Where memory is refused it comes back.
-    pub fn open(alloc: Global, grant: StreamGrant<L>) -> Result<Self, Stream<L>> {
+    pub fn open(alloc: Global, grant: StreamGrant<L>) -> Result<Self, Stream<L>>
+        ensures chunks { IfOk result
+            (λ s. HasChunks s.stream.value.walsender.sender (length grant.arena)) }
+    {
         match Box::new(alloc, Stream::open(alloc, grant)) {
             Ok(stream) => Ok(NewStream { stream }),
             Err(AllocFailed { value }) => Err(value),

@@ -1,6 +1,6 @@
 //! A stream that is written, with all that goes back at its end.
 
-ghost use Rattle.std.specs.Prelude.{◌≡◌, ◌⊎◌, ◌++◌, [], ℕ, List, false, max, min, OnErr, OnOk};
+ghost use Rattle.std.specs.Prelude.{◌≡◌, ◌⊎◌, ◌++◌, [], ℕ, List, false, length, max, min, OnErr, OnOk};
 ghost use Rattle.std.specs.Io.KnownBytes.{Appends};
 ghost use Rattle.slots.specs.Rule.{slot_step, with_step};
 ghost use Rattle.slots.specs.Seats.{DidAt};
@@ -10,6 +10,7 @@ ghost use mathlib.Core.List.{IsPrefix};
 ghost use Rattle.shared_log.specs.Readers.{seen_of};
 ghost use Rattle.wal.specs.Log.{IsWellFormedLog};
 ghost use Rattle.wal.specs.declared.record.Record.{Record};
+ghost use Rattle.walsender.specs.Sending.{HasChunks};
 ghost use Rattle.walsender.specs.Serving.{Gives, Serves, StaysOn};
 ghost use Rattle.hub.specs.Streams.{HasLearnt, StreamsOn, asking, keepalives};
 ghost use Rattle.hub.specs.Turns.{Confirms, WritesWhole};
@@ -55,6 +56,7 @@ impl<L: LogName + SlotName> Stream<L> {
             IsWellFormedLog log → Serves log [] result.walsender }
         ensures new { ∥ Serves (seen_of result.walsender.reader) [] result.walsender ∥₁ }
         ensures hold { result.hold ≡ grant.hold }
+        ensures chunks { HasChunks result.walsender.sender (length grant.arena) }
     {
         let StreamGrant {
             selection,

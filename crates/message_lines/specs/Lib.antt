@@ -6,3 +6,4 @@ pub mod Changes
 pub mod Marks
 pub mod Ending
 pub mod Fronts
+pub mod Texts

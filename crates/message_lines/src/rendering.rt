@@ -1,5 +1,8 @@
 //! A message as a line of text.
 
+ghost use Rattle.std.specs.Prelude.{◌≡◌, IfOk, string_bytes};
+ghost use Rattle.message_lines.specs.Texts.{IsTextOf, begin_text, commit_text};
+
 use crate::cell_text::{Cells, Hex, Name, Quoted, old_letter};
 use pgoutput::{
     Begin, Column, Commit, Delete, Identity, Insert, Logical, Message, NOT_TRANSACTIONAL, Relation,
@@ -25,7 +28,9 @@ use std::alloc::{AllocError, Global};
 /// backslash is doubled, and a control character (below 32, and 127) is `\x` and two hexadecimal digits. Positions are as
 /// `16/B374D848`, the identity is `d`, `n`, `f` or `i`, and the options are the sum of 1 for CASCADE and 2 for RESTART IDENTITY. The flags of a Message are 1 in a
 /// transaction, else 0; its prefix is a text in single quotes, its content in hexadecimal.
-pub fn render(alloc: Global, message: &Logical) -> Result<String, AllocError> {
+pub fn render(alloc: Global, message: &Logical) -> Result<String, AllocError>
+    ensures { IfOk result (λ line. IsTextOf message.now (string_bytes line)) }
+{
     match message {
         Logical::Begin(message) => render_begin(alloc, message),
         Logical::Commit(message) => render_commit(alloc, message),
@@ -38,14 +43,20 @@ pub fn render(alloc: Global, message: &Logical) -> Result<String, AllocError> {
     }
 }
 
-fn render_begin(alloc: Global, message: &Begin) -> Result<String, AllocError> {
+fn render_begin(alloc: Global, message: &Begin) -> Result<String, AllocError>
+    ensures { IfOk result (λ line. string_bytes line
+        ≡ begin_text message.now.xid message.now.position message.now.time) }
+{
     let xid = message.xid;
     let position = write_position(alloc, message.position)?;
     let time = message.time;
     format!(in alloc; "BEGIN {xid} {position} {time}")
 }
 
-fn render_commit(alloc: Global, message: &Commit) -> Result<String, AllocError> {
+fn render_commit(alloc: Global, message: &Commit) -> Result<String, AllocError>
+    ensures { IfOk result (λ line. string_bytes line
+        ≡ commit_text message.now.position message.now.end message.now.time) }
+{
     let position = write_position(alloc, message.position)?;
     let end = write_position(alloc, message.end)?;
     let time = message.time;

@@ -1,6 +1,6 @@
 //! A sender and its reader.
 
-ghost use Rattle.std.specs.Prelude.{◌≡◌, ◌≢◌, ◌↔◌, ◌+◌, ◌<◌, ◌++◌, ◌==◌, [], ℕ, List, false, true, drop, length, min, not, take, Err, IfErr, IfOk, OnErr, OnOk};
+ghost use Rattle.std.specs.Prelude.{◌≡◌, ◌≢◌, ◌↔◌, ◌+◌, ◌<◌, ◌++◌, ◌==◌, [], ℕ, List, None, false, true, drop, length, min, not, replicate, take, Err, IfErr, IfOk, OnErr, OnOk};
 ghost use Rattle.std.specs.Io.KnownBytes.{Appends};
 ghost use mathlib.Core.List.{IsPrefix};
 ghost use Rattle.std.specs.declared.io.Error.{Error};
@@ -59,6 +59,8 @@ impl<L: LogName> Walsender<L> {
         ensures fresh { (result.sender.position ≡ first) × (result.sender.failed ≡ false)
             × (result.sender.held ≡ []) }
         ensures reader { result.reader ≡ reader }
+        ensures chunks { (count : ℕ) → arena ≡ replicate count None →
+            HasChunks result.sender count }
     {
         let Ok(sender) = Sender::start(alloc, selection, start, first, arena) else {
             unreachable!();

@@ -1,7 +1,7 @@
 use Rattle.std.proofs.Common.{◌≡◌, ◌++◌, ◌∷◌, refl, ap, sym, ◌∙◌}
 use Rattle.std.specs.Fmt.{signed_decimal}
 use Rattle.replcmd.specs.Position.{position_text}
-use Rattle.follower.specs.TextLines.{commit_text}
+use Rattle.message_lines.specs.Texts.{commit_text}
 use Rattle.follower.proofs.TextLines.{first_is, numbers_are, spells, text_is}
 use Rattle.follower.proofs.text_form.end_of_commit.Goals as goal
 

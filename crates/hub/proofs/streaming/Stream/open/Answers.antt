@@ -1,4 +1,4 @@
-use Rattle.std.proofs.Common.{[], subst, sym}
+use Rattle.std.proofs.Common.{[], length, subst, sym}
 use Rattle.std.proofs.Math.Logic.{∥∥₁_map}
 use Rattle.std.proofs.lemmas.List.{append-nil}
 use Rattle.shared_log.specs.Readers.{seen_of}
@@ -19,3 +19,6 @@ returns-clause-new g c =
     let seen = seen_of grant.reader in
     let At : LogReader _ → Type 0 = λ r. Serves (seen_of r) [] c.begin.result in
     ∥∥₁_map grant.good (λ good. subst At (sym c.begin.ensures.reader) (c.begin.ensures.serves seen (begins_in seen seen LIMIT grant.start grant.first grant.reader.place grant.place grant.begins ([], append-nil seen) good)))
+
+pub returns-clause-chunks : goal.returns-clause-chunks
+returns-clause-chunks g c = let grant = c.args.grant in c.begin.ensures.chunks (length grant.arena) grant.empty
