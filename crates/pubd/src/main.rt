@@ -42,11 +42,10 @@ use reports::Reports;
 use scripting::{Driven, InputLines, STANDARD_INPUT, Script, read_input, run_input, scripts_at};
 use scripts::{has_ended_server, run_all};
 use shared_log::LogName;
-use sigterm::{Watch, judge_blocked};
+use sigterm::Watch;
 use slots::SlotName;
 use status_page::serve_status;
 use std::alloc::{AllocError, Global};
-use std::fs::Files;
 use std::io::{Print, Stdin};
 use std::marker::Brand;
 use std::net::{Net, SocketAddr, TcpListener, TcpStream};
@@ -71,7 +70,6 @@ where
         + Threads
         + Wait
         + Clock
-        + Files
         + Eprint
         + Copy
         + Send
@@ -88,7 +86,6 @@ where
         + Threads
         + Wait
         + Clock
-        + Files
         + Eprint
         + Copy
         + Send
@@ -109,7 +106,6 @@ where
         + Threads
         + Wait
         + Clock
-        + Files
         + Eprint
         + Copy
         + Send
@@ -117,17 +113,25 @@ where
         + 'static,
 {
     let numbers = words.numbers()?;
-    if numbers.ends_on_sigterm {
-        judge_blocked(rt, rt.alloc())?;
-    }
+    let watch = watch_of(rt, &numbers)?;
     let scripts = scripts_at(rt, words.scripts.as_slice())?;
     let asked = Asked {
         config: words.config,
         numbers: &numbers,
+        watch: watch.as_ref(),
         scripts: scripts.as_slice(),
         has_input: words.scripts.as_slice().contains(&STANDARD_INPUT),
     };
     listen(rt, host, &asked)
+}
+
+/// What watches for a SIGTERM, if that is asked for.
+fn watch_of(rt: &HostRuntime, numbers: &Numbers) -> Result<Option<Watch>, Fault> {
+    if numbers.ends_on_sigterm {
+        Watch::open(rt).map(Some)
+    } else {
+        Ok(None)
+    }
 }
 
 /// What is asked for, read but for the configuration.
@@ -135,6 +139,7 @@ where
 struct Asked<'a> {
     config: &'a str,
     numbers: &'a Numbers,
+    watch: Option<&'a Watch>,
     scripts: &'a [Script],
     /// Whether lines come from the standard input.
     has_input: bool,
@@ -146,7 +151,6 @@ where
         + Threads
         + Wait
         + Clock
-        + Files
         + Eprint
         + Copy
         + Send
@@ -181,7 +185,6 @@ where
         + Threads
         + Wait
         + Clock
-        + Files
         + Eprint
         + Copy
         + Send
@@ -199,7 +202,7 @@ where
         scripts: asked.scripts,
         has_input: asked.has_input,
         ends_with_input: asked.has_input && asked.numbers.ends_with_input,
-        ends_on_sigterm: asked.numbers.ends_on_sigterm,
+        watch: asked.watch,
     };
     serve_configured(rt, host, asked, &service)
 }
@@ -215,7 +218,6 @@ where
         + Threads
         + Wait
         + Clock
-        + Files
         + Eprint
         + Copy
         + Send
@@ -299,8 +301,8 @@ struct Service<'a> {
     has_input: bool,
     /// Whether its end is that of the server.
     ends_with_input: bool,
-    /// Whether a SIGTERM that is left pending is too.
-    ends_on_sigterm: bool,
+    /// What watches for a SIGTERM, whose coming is too.
+    watch: Option<&'a Watch>,
 }
 
 /// The log and the slots are named by the call. A hub must be closed, so whatever may fail stands in a call that borrows it.
@@ -313,7 +315,7 @@ fn served<L, R, O>(
 ) -> Result<(), Fault>
 where
     L: LogName + SlotName + Send + Sync,
-    R: Threads + Wait + Clock + Files + Sync,
+    R: Threads + Wait + Clock + Sync,
     O: Print,
     requires log { opened.log.history.seen.book ≡ L.book }
     requires slots { opened.slots.first.table_id ≡ L.table }
@@ -335,7 +337,7 @@ fn serve_beside_all<L, R, O>(
 ) -> Result<(), Fault>
 where
     L: LogName + SlotName + Send + Sync,
-    R: Threads + Wait + Clock + Files + Sync,
+    R: Threads + Wait + Clock + Sync,
     O: Print,
 {
     tell_doors(service.doors, output).map_err(Fault::Output)?;
@@ -359,13 +361,12 @@ fn serve_watched<L, R, O>(
 ) -> Result<(), AllocError>
 where
     L: LogName + SlotName + Send + Sync,
-    R: Threads + Wait + Clock + Files + Sync,
+    R: Threads + Wait + Clock + Sync,
     O: Print,
 {
-    if !service.ends_on_sigterm {
+    let Some(watch) = service.watch else {
         return serve_beside(rt, hub, service, told, output, early);
-    }
-    let watch = &Watch::new();
+    };
     thread::scope(thread::scope_env(), rt, |scope| {
         let watched = scope.spawn(move || watch.watch(rt, hub, service.doors));
         if !was_spawned(watched) {

@@ -8,11 +8,11 @@ use crate::fault::Fault;
 use hub::Hub;
 use shared_log::LogName;
 use slots::SlotName;
-use std::alloc::Global;
-use std::fs::{File, Files};
-use std::io;
+use std::fs::File;
+use std::os::unix::fs::FileExt;
 use std::sync::{Condvar, Mutex, Wait};
 use std::time::{Clock, Duration};
+use std::{io, str};
 
 /// Where Linux shows what a process has of signals (proc(5)), each mask on a line, after its name.
 const STATUS: &str = "/proc/self/status";
@@ -22,33 +22,14 @@ const PENDING: [&str; 2] = ["ShdPnd:", "SigPnd:"];
 
 const BLOCKED: &str = "SigBlk:";
 
+/// How many bytes of it are read: it has some 1,500.
+const MOST_READ: usize = 4096;
+
 /// The number of SIGTERM (signal(7)).
 const SIGTERM: u32 = 15;
 
 /// How long the watch rests, in milliseconds.
 const REST: u64 = 500;
-
-/// Refuses a SIGTERM that isn't blocked: it would end the program at once.
-pub fn judge_blocked<F: Files>(files: &F, alloc: Global) -> Result<(), Fault> {
-    let status = status_of(files, alloc).map_err(Fault::Signals)?;
-    if is_in(status.as_str(), BLOCKED) {
-        Ok(())
-    } else {
-        Err(Fault::SignalUnblocked)
-    }
-}
-
-/// Whether a SIGTERM came. Where that can't be seen for now, none did.
-fn is_pending<F: Files>(files: &F, alloc: Global) -> bool {
-    match status_of(files, alloc) {
-        Ok(status) => PENDING.iter().any(|name| is_in(status.as_str(), name)),
-        Err(_) => false,
-    }
-}
-
-fn status_of<F: Files>(files: &F, alloc: Global) -> io::Result<String> {
-    io::read_to_string(alloc, File::open(files, STATUS)?)
-}
 
 /// Whether SIGTERM is in the mask of this name.
 fn is_in(status: &str, name: &str) -> bool {
@@ -76,26 +57,43 @@ fn has_sigterm(mask: u64) -> bool
 /// A watch for SIGTERM, until it is over.
 #[derive(Drop)]
 pub struct Watch {
+    status: File,
     is_over: Mutex<bool>,
     over: Condvar,
 }
 
 impl Watch {
-    pub fn new() -> Self {
-        Watch {
+    /// Refuses a SIGTERM that isn't blocked: it would end the program at once.
+    pub fn open(rt: &HostRuntime) -> Result<Self, Fault> {
+        let watch = Watch {
+            status: File::open(rt, STATUS).map_err(Fault::Signals)?,
             is_over: Mutex::new(false),
             over: Condvar::new(),
+        };
+        if watch.has(&[BLOCKED]).map_err(Fault::Signals)? {
+            Ok(watch)
+        } else {
+            Err(Fault::SignalUnblocked)
         }
     }
 
-    /// Ends the server in order once a SIGTERM came.
+    /// Whether SIGTERM is in one of the masks of these names.
+    fn has(&self, names: &[&str]) -> io::Result<bool> {
+        let mut bytes = [0; MOST_READ];
+        let count = self.status.read_at(&mut bytes, 0)?;
+        let status = bytes.get(..count).unwrap_or(&[]);
+        let status = str::from_utf8(status).unwrap_or("");
+        Ok(names.iter().any(|name| is_in(status, name)))
+    }
+
+    /// Ends the server in order once a SIGTERM came. Where that can't be seen for now, none did.
     pub fn watch<L, R>(&self, rt: &R, hub: &Hub<L>, doors: &Doors)
     where
         L: LogName + SlotName,
-        R: Wait + Clock + Files,
+        R: Wait + Clock,
     {
         for _ in rt.forever() {
-            if is_pending(rt, hub.alloc()) {
+            if self.has(&PENDING).unwrap_or(false) {
                 end_server(rt, hub, doors);
                 break;
             }
