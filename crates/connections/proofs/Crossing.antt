@@ -26,7 +26,7 @@ use Rattle.connections.specs.contracts.sockets.Sockets as sockets
 pub inbox_send : IsSend inbox.the_row
 inbox_send = declared_send inbox.the_type (
   search (buffer.the_send, heap.send, heap.sync, heap.frees, sendable) depth 10,
-  (search sendable depth 10, (search sendable, (search sendable, (phase.the_send, (search sendable, (search sendable, (search (end.the_send, sendable) depth 10, tt))))))),
+  (search sendable depth 10, (search sendable, (search sendable, (phase.the_send, (search sendable, (search sendable, (search (end.the_send, sendable) depth 10, (search sendable, tt)))))))),
 )
 
 arriving_send : IsSend arriving.the_row
