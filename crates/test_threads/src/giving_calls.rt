@@ -18,7 +18,7 @@ fn more_records_than_room(rt: HostRuntime) -> Result<(), Fail> {
     do_work(&rt, rt.alloc(), Work::GiveBack)
 }
 
-/// All that is behind the last transaction is given back. A reader that was left at the front is told so, and so is a start there;
+/// All that stands before the last transaction is given back. A reader that was left at the front is told so, and so is a start there;
 /// one at the last Commit begins at the transaction's first record.
 pub fn give_all_back<L: LogName, R: Wait + Abort>(
     rt: &R,
@@ -33,11 +33,11 @@ pub fn give_all_back<L: LogName, R: Wait + Abort>(
     let position = reader.resume(last.start(), usize::MAX)?;
     assert!(rt; position < last.start());
     let records = reader.fetch(alloc, 100)?;
-    assert!(rt; records.len() == 2 && reader.place() == last.place() + 1);
+    assert!(rt; records.len() == 2 && last.place().checked_add(1) == Some(reader.place()));
     Ok(())
 }
 
-/// The receipt of the last of many transactions, behind each of which all may be given back.
+/// The receipt of the last of many transactions, after each of which all may be given back.
 fn commit_many<L: LogName, R: Wait>(
     rt: &R,
     alloc: Global,
