@@ -1,7 +1,6 @@
 """Whether the archive's systemd unit serves its configuration, does lines, and is stopped in order."""
 import pathlib
 import re
-import shlex
 import shutil
 import subprocess
 import tempfile
@@ -16,24 +15,27 @@ def setting(unit, name):
     return re.search(rf"^{name}=(.*)$", unit, re.MULTILINE).group(1)
 
 
-def words_of(command):
-    """The words of a command, with free ports."""
-    return [ADDRESS.sub("127.0.0.1:0", word) for word in shlex.split(command)]
+def shell_of(words):
+    """What /bin/sh is given, with free ports."""
+    return ADDRESS.sub("127.0.0.1:0", re.fullmatch(r"/bin/sh -c '(.*)'", words).group(1))
 
 
 def served(unit, folder):
     """What is wrong where its commands are run as systemd would."""
     with tempfile.TemporaryDirectory() as runtime:
-        begins, starts = (words_of(setting(unit, f"Exec{name}").replace(RUNTIME, runtime).replace(FOLDER, str(folder))) for name in ("StartPre", "Start"))
-        subprocess.run(begins, check=True)
-        server = subprocess.Popen(starts, stdout=subprocess.PIPE, stderr=subprocess.STDOUT, text=True)
+        begins, starts, stops = (setting(unit, f"Exec{name}").replace(RUNTIME, runtime) for name in ("StartPre", "Start", "Stop"))
+        subprocess.run(begins.split(), check=True)
+        command = shell_of(starts.replace(FOLDER, str(folder)))
+        server = subprocess.Popen(["/bin/sh", "-c", command], stdout=subprocess.PIPE, stderr=subprocess.STDOUT, text=True)
         try:
             said = [server.stdout.readline() for _ in range(2)]
             with open(f"{runtime}/lines", "w") as lines:
                 lines.write("note 'app' 'hello'\n")
             said.append(server.stdout.readline())
-            server.terminate()
+            stop = shell_of(stops).replace("${MAINPID}", str(server.pid))
+            stopping = subprocess.Popen(["/bin/sh", "-c", stop])
             status = server.wait(SECONDS)
+            stopping.wait(SECONDS)
         finally:
             server.kill()
         if status or [line.split()[:1] for line in said] != [["listening"], ["status"], ["ok"]]:

@@ -6,7 +6,6 @@ import socket
 import struct
 import subprocess
 import sys
-import tempfile
 import threading
 import time
 
@@ -243,62 +242,3 @@ def is_there(client):
         return is_free(client, "s")
     except Refused as refused:
         return refused.args[0] != MISSING
-
-
-def wrong_ends(clients):
-    """What is wrong with how their streams end: each gets one transaction, but the first, which has it, then CopyDone, and nothing more."""
-    wrong = []
-    for at, client in enumerate(clients):
-        due = "BRICc" if at else "c"
-        kinds = []
-        try:
-            while kinds[-1:] != ["c"]:
-                kind, body = client.frame()
-                kinds.append(kind.decode() if kind != b"d" else body[25:26].decode() if body[:1] == b"w" else "k")
-        except (EOFError, ConnectionError):
-            pass
-        came = "".join(kind for kind in kinds if kind != "k")
-        wrong += [f"stream {at} gets {came}"] * (came != due) + [f"more comes of stream {at}"] * (client.bytes.read(1) != b"")
-    return wrong
-
-
-def a_signal_that_is_left_pending_ends_a_server_in_order(pubd, subcat):
-    """SIGTERM where who started it has blocked it: four streams, one of them held, get what is left and CopyDone, with lines that come and
-    a script that awaits what never comes beside them. Where it isn't blocked, pubd doesn't begin; without the option it ends at once."""
-    blocking, option = ["env", "--block-signal=TERM"], "--end-on-sigterm"
-    wrong = []
-    with tempfile.TemporaryDirectory() as folder:
-        script = pathlib.Path(folder) / "script"
-        script.write_text("begin A\ninsert A public.item (1,'ab',7)\ncommit A 5\nawait none stream 1000\nnote 'p' 'q'\n")
-        for inputs, count in (((), "forever"), (("-",), "forever"), (("-",), "4")):
-            words = [*blocking, pubd, option, "--await-streams", "4", CONFIGURATION, "127.0.0.1:0", count, script, *inputs]
-            server = subprocess.Popen(words, stdin=subprocess.PIPE, stdout=subprocess.PIPE, stderr=subprocess.PIPE, text=True)
-            port = int(server.stdout.readline().rpartition(":")[2])
-            clients = [Connection(port) for _ in range(4)]
-            for at, client in enumerate(clients):
-                client.create(f"s{at}")
-            if inputs:
-                print("hold s3", file=server.stdin, flush=True)
-                server.stdout.readline()
-            for at, client in enumerate(clients):
-                client.start(f"s{at}")
-            clients[0].commits(1)
-            server.send_signal(signal.SIGTERM)
-            wrong += wrong_ends(clients)
-            try:
-                wrong += [f"with {inputs} and {count} it ends with status {server.returncode}"] * bool(server.wait(ENDING))
-            except subprocess.TimeoutExpired:
-                wrong.append(f"with {inputs} and {count} it doesn't end in {ENDING} s")
-            server.kill()
-            server.communicate()
-            for client in clients:
-                client.close()
-        words = [CONFIGURATION, "127.0.0.1:0", "forever"]
-        ran = subprocess.run([pubd, option, *words], capture_output=True, text=True, timeout=60)
-        due = "pubd: SIGTERM is not blocked, so --end-on-sigterm would not see it: env --block-signal=TERM starts a program so\n"
-        wrong += [f"not blocked, it ends with {ran.returncode}, {ran.stdout!r} and {ran.stderr!r}"] * ((ran.returncode, ran.stdout, ran.stderr) != (2, "", due))
-        server = subprocess.Popen([pubd, *words], stdout=subprocess.PIPE)
-        server.stdout.readline()
-        server.send_signal(signal.SIGTERM)
-        wrong += [f"without the option it ends with {server.returncode}"] * (server.wait(60) != -signal.SIGTERM)
-    return wrong

@@ -8,7 +8,7 @@ use command_line::{CommandLine, Word, WordForm, WordsFault};
 use std::alloc::{AllocError, Global};
 
 /// The words: those that may be left out, those that have to be there, and scripts.
-const WORDS: [Word<'static>; 16] = [
+const WORDS: [Word<'static>; 15] = [
     Word {
         name: "await-streams",
         form: WordForm::Option("N"),
@@ -58,11 +58,6 @@ const WORDS: [Word<'static>; 16] = [
         name: "keep-serving",
         form: WordForm::Flag,
         help: "Serve on where the standard input ends, with forever and -",
-    },
-    Word {
-        name: "end-on-sigterm",
-        form: WordForm::Flag,
-        help: "End at a SIGTERM as at the line end: for who starts pubd with that signal blocked, as env --block-signal=TERM does",
     },
     Word {
         name: "password-of",
@@ -132,7 +127,6 @@ fn words_in<'a>(alloc: Global, matches: &ArgMatches<'a>) -> Result<Words<'a>, Al
         answers_postgresql: matches.get_flag("answer-postgresql"),
         allows_start_ahead: matches.get_flag("allow-start-ahead"),
         keeps_serving: matches.get_flag("keep-serving"),
-        ends_on_sigterm: matches.get_flag("end-on-sigterm"),
         password_of: matches.get_str("password-of"),
         scripts: scripts_in(alloc, matches)?,
     })

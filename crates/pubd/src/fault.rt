@@ -24,10 +24,6 @@ pub enum Fault {
     Hub(HubFault),
     #[error("no name can be chosen for the system: {0}")]
     System(io::Error),
-    #[error("SIGTERM is not blocked, so --end-on-sigterm would not see it: env --block-signal=TERM starts a program so")]
-    SignalUnblocked,
-    #[error("/proc/self/status cannot be read: {0}")]
-    Signals(io::Error),
     #[error("the address cannot be listened at: {0}")]
     Listen(io::Error),
     #[error("standard output cannot be used: {0}")]
@@ -39,21 +35,20 @@ pub enum Fault {
 }
 
 impl Ending for Fault {
-    /// 2 where the arguments, the configuration or a script are refused, or a signal isn't blocked that has to be, and 0 where help
-    /// was asked for. 1 where a file, a socket or memory failed.
+    /// 2 where the arguments, the configuration or a script are refused, and 0 where help was asked for. 1 where a file, a
+    /// socket or memory failed.
     fn status(&self) -> u8 {
         match self {
             Fault::Command(fault) => fault.status(),
             Fault::Config(fault) if fault.is_bad_configuration() => 2,
             Fault::Script(fault) if fault.is_bad_script() => 2,
             Fault::Password(fault) if fault.is_bad_input() => 2,
-            Fault::Hub(HubFault::LongName) | Fault::SignalUnblocked => 2,
+            Fault::Hub(HubFault::LongName) => 2,
             Fault::Config(_)
             | Fault::Script(_)
             | Fault::Password(_)
             | Fault::Hub(HubFault::Memory)
             | Fault::System(_)
-            | Fault::Signals(_)
             | Fault::Listen(_)
             | Fault::Output(_)
             | Fault::EndedEarly

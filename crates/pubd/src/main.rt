@@ -15,7 +15,6 @@ mod questions;
 mod reports;
 mod scripting;
 mod scripts;
-mod sigterm;
 mod sizes;
 mod status_page;
 mod status_text;
@@ -42,7 +41,6 @@ use reports::Reports;
 use scripting::{Driven, InputLines, STANDARD_INPUT, Script, read_input, run_input, scripts_at};
 use scripts::{has_ended_server, run_all};
 use shared_log::LogName;
-use sigterm::Watch;
 use slots::SlotName;
 use status_page::serve_status;
 use std::alloc::{AllocError, Global};
@@ -113,25 +111,14 @@ where
         + 'static,
 {
     let numbers = words.numbers()?;
-    let watch = watch_of(rt, &numbers)?;
     let scripts = scripts_at(rt, words.scripts.as_slice())?;
     let asked = Asked {
         config: words.config,
         numbers: &numbers,
-        watch: watch.as_ref(),
         scripts: scripts.as_slice(),
         has_input: words.scripts.as_slice().contains(&STANDARD_INPUT),
     };
     listen(rt, host, &asked)
-}
-
-/// What watches for a SIGTERM, if that is asked for.
-fn watch_of(rt: &HostRuntime, numbers: &Numbers) -> Result<Option<Watch>, Fault> {
-    if numbers.ends_on_sigterm {
-        Watch::open(rt).map(Some)
-    } else {
-        Ok(None)
-    }
 }
 
 /// What is asked for, read but for the configuration.
@@ -139,7 +126,6 @@ fn watch_of(rt: &HostRuntime, numbers: &Numbers) -> Result<Option<Watch>, Fault>
 struct Asked<'a> {
     config: &'a str,
     numbers: &'a Numbers,
-    watch: Option<&'a Watch>,
     scripts: &'a [Script],
     /// Whether lines come from the standard input.
     has_input: bool,
@@ -202,7 +188,6 @@ where
         scripts: asked.scripts,
         has_input: asked.has_input,
         ends_with_input: asked.has_input && asked.numbers.ends_with_input,
-        watch: asked.watch,
     };
     serve_configured(rt, host, asked, &service)
 }
@@ -301,8 +286,6 @@ struct Service<'a> {
     has_input: bool,
     /// Whether its end is that of the server.
     ends_with_input: bool,
-    /// What watches for a SIGTERM, whose coming is too.
-    watch: Option<&'a Watch>,
 }
 
 /// The log and the slots are named by the call. A hub must be closed, so whatever may fail stands in a call that borrows it.
@@ -342,40 +325,12 @@ where
 {
     tell_doors(service.doors, output).map_err(Fault::Output)?;
     let ended_early = AtomicBool::new(false);
-    serve_watched(rt, hub, service, told, output, &ended_early)?;
+    serve_beside(rt, hub, service, told, output, &ended_early)?;
     if ended_early.load(Ordering::SeqCst) {
         told.line(rt, format_args!("pubd: {}", Fault::EndedEarly));
         return Err(Fault::EndedEarly);
     }
     Ok(())
-}
-
-/// Serves, and watches beside that for what ends the server from outside, where that is asked for.
-fn serve_watched<L, R, O>(
-    rt: &R,
-    hub: &Hub<L>,
-    service: &Service,
-    told: &Told,
-    output: &O,
-    early: &AtomicBool,
-) -> Result<(), AllocError>
-where
-    L: LogName + SlotName + Send + Sync,
-    R: Threads + Wait + Clock + Sync,
-    O: Print,
-{
-    let Some(watch) = service.watch else {
-        return serve_beside(rt, hub, service, told, output, early);
-    };
-    thread::scope(thread::scope_env(), rt, |scope| {
-        let watched = scope.spawn(move || watch.watch(rt, hub, service.doors));
-        if !was_spawned(watched) {
-            return Err(AllocError);
-        }
-        let served = serve_beside(rt, hub, service, told, output, early);
-        watch.end(rt);
-        served
-    })
 }
 
 fn serve_beside<L, R, O>(

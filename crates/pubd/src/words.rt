@@ -30,7 +30,6 @@ pub struct Words<'a> {
     pub(crate) answers_postgresql: bool,
     pub(crate) allows_start_ahead: bool,
     pub(crate) keeps_serving: bool,
-    pub(crate) ends_on_sigterm: bool,
     /// Of whom a password is read, and nothing is served.
     pub password_of: Option<&'a str>,
     pub scripts: Vec<&'a str>,
@@ -55,8 +54,6 @@ pub struct Numbers {
     pub allows_start_ahead: bool,
     /// Whether the end of the standard input is that of the server, where lines come from there.
     pub ends_with_input: bool,
-    /// Whether a SIGTERM that is left pending ends the server in order.
-    pub ends_on_sigterm: bool,
 }
 
 impl<'a> Words<'a> {
@@ -80,7 +77,6 @@ impl<'a> Words<'a> {
             answers_postgresql: self.answers_postgresql,
             allows_start_ahead: self.allows_start_ahead,
             ends_with_input: self.connections == FOREVER && !self.keeps_serving,
-            ends_on_sigterm: self.ends_on_sigterm,
         })
     }
 

@@ -53,9 +53,6 @@ fn do_steps<L: LogName + SlotName, R: Wait + Clock>(
 ) -> Result<ScriptEnd, AllocError> {
     let name = script.path.as_str();
     for each in script.steps.as_slice() {
-        if hub.is_ending() {
-            break;
-        }
         let done = do_step(rt, hub, doors, sessions, &each.step)?;
         if matches!(done, Done::End) {
             return Ok(ScriptEnd::EndLine);
