@@ -44,7 +44,7 @@ pub(crate) fn commit_now<L: LogName + SlotName, R: Wait + Clock>(
     do_event(rt, hub, sessions, &event)
 }
 
-/// Does a session's line under the publisher's lock, and tells streams of its commit or its note.
+/// Does a session's line under the publisher's lock, once there is room for it where there can be, and tells streams of its commit or its note.
 pub(crate) fn do_event<L: LogName + SlotName, R: Wait>(
     rt: &R,
     hub: &Hub<L>,
@@ -52,11 +52,12 @@ pub(crate) fn do_event<L: LogName + SlotName, R: Wait>(
     event: &Event,
 ) -> Result<Done, AllocError> {
     let mut publisher = hub.publisher().lock(rt);
+    hub.make_room(rt, &mut publisher);
     let done = sessions.line(rt, &mut publisher, event);
-    let log_end = publisher.end();
+    let (log_end, kept) = (publisher.end(), publisher.kept());
     MutexGuard::unlock(publisher);
     match done {
-        Ok((answer, Some(receipt))) => Ok(tell_commit(rt, hub, answer, receipt)),
+        Ok((answer, Some(receipt))) => Ok(tell_commit(rt, hub, answer, receipt, kept)),
         Ok((answer, None)) => Ok(tell_end(rt, hub, event, answer, log_end)),
         Err(WorldFault::BadEvent) => Ok(Done::Refused(not_now(event))),
         Err(WorldFault::Memory | WorldFault::NoEntry) => Err(AllocError),
@@ -71,18 +72,19 @@ fn not_now(event: &Event) -> Refusal {
     }
 }
 
-/// A commit leaves its receipt.
+/// A commit leaves its receipt, in a log of which so many records are kept.
 fn tell_commit<L: LogName + SlotName, R: Wait>(
     rt: &R,
     hub: &Hub<L>,
     answer: Answer,
     receipt: Receipt<L>,
+    kept: usize,
 ) -> Done {
-    let (end, place) = (receipt.end(), receipt.place());
+    let end = receipt.end();
     hub.tell(rt, receipt);
     match answer {
         Answer::Session(fault) => Done::Refused(Refusal::Session(fault)),
-        _ => Done::Commit { end, place },
+        _ => Done::Commit { end, kept },
     }
 }
 

@@ -8,8 +8,8 @@ use std::fmt;
 pub enum Done {
     /// A session's line was done.
     Line,
-    /// A transaction was committed, whose record ends at this position, and is the log's of this place.
-    Commit { end: u64, place: usize },
+    /// A transaction was committed, whose record ends at this position, and after it so many records of the log are kept.
+    Commit { end: u64, kept: usize },
     /// A stream was steered, or waited for.
     Steered,
     Refused(Refusal),

@@ -1,0 +1,10 @@
+pub mod Bytes
+pub mod Calendar
+pub mod Characters
+pub mod Clock
+pub mod Digits
+pub mod Integers
+pub mod Kinds
+pub mod Moments
+pub mod Truths
+pub mod Uuids
