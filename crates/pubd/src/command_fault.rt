@@ -32,6 +32,7 @@ pub enum NumberFault {
     Silence,
     Startup,
     AtOnce,
+    SlotKeep,
     WorkMemory,
     Level,
 }
@@ -45,12 +46,13 @@ impl NumberFault {
             NumberFault::Connections => "CONNECTIONS is a number from 0 to 1000, or forever",
             NumberFault::Awaited => "N of --await-streams is a number from 0 to 4294967295",
             NumberFault::Silence => {
-                "TIME of --wal-sender-timeout is a number, and ms, s, min, h or d behind it, as in 60s"
+                "TIME of --wal-sender-timeout is a number, and ms, s, min, h or d after it, as in 60s"
             }
             NumberFault::Startup => {
-                "TIME of --authentication-timeout is a number, and ms, s, min, h or d behind it, as in 60s"
+                "TIME of --authentication-timeout is a number, and ms, s, min, h or d after it, as in 60s"
             }
             NumberFault::AtOnce => "N of --max-connections is a number from 1 to 4294967295",
+            NumberFault::SlotKeep => "RECORDS of --max-slot-keep is a number from 1 to 4294967295",
             NumberFault::WorkMemory => {
                 "SIZE of --logical-decoding-work-mem is a number, and kB, MB, GB or TB after it, from 64kB to 2147483647kB"
             }

@@ -24,12 +24,16 @@ pub struct Words<'a> {
     pub(crate) silence: Option<&'a str>,
     pub(crate) startup: Option<&'a str>,
     pub(crate) at_once: Option<&'a str>,
+    pub(crate) slot_keep: Option<&'a str>,
     pub(crate) work_memory: Option<&'a str>,
     pub(crate) messages: Option<&'a str>,
     pub(crate) status: Option<&'a str>,
     pub(crate) answers_postgresql: bool,
     pub(crate) allows_start_ahead: bool,
     pub(crate) keeps_serving: bool,
+    pub(crate) ends_on_sigterm: bool,
+    /// The file of those that may connect, where not everyone may.
+    pub passwords: Option<&'a str>,
     /// Of whom a password is read, and nothing is served.
     pub password_of: Option<&'a str>,
     pub scripts: Vec<&'a str>,
@@ -48,12 +52,15 @@ pub struct Numbers {
     pub wal_sender_timeout: Option<Duration>,
     pub authentication_timeout: Option<Duration>,
     pub max_connections: Option<u32>,
+    /// How many records a slot may hold before it is given up.
+    pub max_slot_keep: Option<usize>,
     /// The chunks of each stream, where not the configuration tells them.
     pub chunks: Option<u32>,
     pub answers_postgresql: bool,
     pub allows_start_ahead: bool,
     /// Whether the end of the standard input is that of the server, where lines come from there.
     pub ends_with_input: bool,
+    pub ends_on_sigterm: bool,
 }
 
 impl<'a> Words<'a> {
@@ -73,10 +80,12 @@ impl<'a> Words<'a> {
             wal_sender_timeout: self.wal_sender_timeout()?,
             authentication_timeout: self.authentication_timeout()?,
             max_connections: self.max_connections()?,
+            max_slot_keep: self.max_slot_keep()?,
             chunks: self.chunks()?,
             answers_postgresql: self.answers_postgresql,
             allows_start_ahead: self.allows_start_ahead,
             ends_with_input: self.connections == FOREVER && !self.keeps_serving,
+            ends_on_sigterm: self.ends_on_sigterm,
         })
     }
 
@@ -138,6 +147,16 @@ impl<'a> Words<'a> {
         match count_of(text) {
             Some(count) if 1 <= count => Ok(Some(count)),
             _ => Err(NumberFault::AtOnce),
+        }
+    }
+
+    fn max_slot_keep(&self) -> Result<Option<usize>, NumberFault> {
+        let Some(text) = self.slot_keep else {
+            return Ok(None);
+        };
+        match count_of(text) {
+            Some(count) if 1 <= count => Ok(Some(count as usize)),
+            _ => Err(NumberFault::SlotKeep),
         }
     }
 

@@ -2,3 +2,4 @@ mod Rounds
 mod Differences
 mod Passing
 mod Failing
+pub mod Proved
