@@ -6,6 +6,7 @@ use crate::fault_texts::{answer_codes, answer_texts};
 use crate::fields::answer_field;
 use crate::filters::answer_filter;
 use crate::framing::{answer_back, answer_front, answer_startup};
+use crate::journals::{answer_journal, answer_record, answer_recovered};
 use crate::passwords::{
     answer_hi, answer_hmac, answer_login, answer_proved, answer_verifier, answer_verifier_of,
 };
@@ -31,6 +32,7 @@ pub fn answer_call(alloc: Global, call: &str, given: &str, answer: &mut String) 
         "event" => answer_event(alloc, given, answer),
         "catalog" => answer_catalog(alloc, given, answer),
         "config" => answer_config(alloc, given, answer),
+        "journal" => answer_journal(alloc, given, answer),
         "hmac" => answer_hmac(alloc, given, answer),
         "hi" => answer_hi(alloc, given, answer),
         "verifier_of" => answer_verifier_of(alloc, given, answer),
@@ -56,6 +58,8 @@ fn answer_bytes(alloc: Global, call: &str, bytes: &[u8], answer: &mut String) ->
         "read_server" => answer_server(alloc, bytes, answer),
         "read_client" => answer_client(alloc, bytes, answer),
         "read_body" => answer_body(alloc, bytes, answer),
+        "recover" => answer_recovered(alloc, bytes, answer),
+        "read_record" => answer_record(alloc, bytes, answer),
         "render" => answer_render(alloc, bytes, answer),
         "u8" | "u16" | "u32" | "u64" | "take2" | "cstr" => {
             Ok(answer_field(alloc, call, bytes, answer)?)

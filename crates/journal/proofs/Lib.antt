@@ -1,0 +1,10 @@
+pub mod Beginnings
+pub mod Crashes
+pub mod Division
+pub mod Framing
+pub mod Heading
+pub mod Reading
+pub mod Register
+pub mod Storing
+pub mod Syncing
+pub mod Worked
