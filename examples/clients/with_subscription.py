@@ -142,6 +142,13 @@ def filled(postgres, server, rows):
     return [] if comes(lambda: rows_in(postgres) == due) else ["the tables don't hold the rows of the script"]
 
 
+def clocks(postgres):
+    """What is wrong with the times that PostgreSQL shows of the subscription: those of the server's clock, which is its own one."""
+    near = "now() - last_msg_send_time BETWEEN '-1 s' AND '1 min' AND last_msg_receipt_time - last_msg_send_time BETWEEN '-1 s' AND '1 min'"
+    asked = f"SELECT {near} AND now() - latest_end_time BETWEEN '-1 s' AND '1 min' FROM pg_stat_subscription WHERE subname = '{SLOT}' AND pid IS NOT NULL"
+    return [] if comes(lambda: postgres.ask(asked) == ["t"]) else ["pg_stat_subscription doesn't show the times of the server"]
+
+
 def commands(postgres, server, rows):
     """What is wrong with the other commands of a subscription."""
     postgres.ask("ALTER SUBSCRIPTION s REFRESH PUBLICATION WITH (copy_data = false)", "ALTER SUBSCRIPTION s DISABLE")
@@ -166,7 +173,7 @@ def run(pubd, seed):
     with Cluster() as postgres, Driven(pubd) as server:
         connection = f"host=127.0.0.1 port={server.port} user=u dbname=app"
         postgres.ask(*TABLES, f"CREATE SUBSCRIPTION {SLOT} CONNECTION '{connection}' PUBLICATION p, t WITH (copy_data = false)")
-        wrong = filled(postgres, server, rows) or commands(postgres, server, rows)
+        wrong = filled(postgres, server, rows) or clocks(postgres) or commands(postgres, server, rows)
         return wrong + copied(postgres, connection) + server.end()
 
 

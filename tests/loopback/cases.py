@@ -33,6 +33,11 @@ from extended import (
     a_stream_takes_no_extended_query,
     an_extended_query_is_refused_and_its_session_goes_on,
 )
+from filling import (
+    a_slot_that_holds_too_much_is_given_up,
+    a_slot_that_lags_holds_the_log,
+    a_small_log_never_fills,
+)
 from followers import (
     a_refusal_without_a_reason_is_one_all_the_same,
     acknowledgements_follow_what_was_printed,
@@ -92,6 +97,7 @@ from steering import (
 from stopping import (
     a_drop_that_waits_ends_with_its_client,
     a_held_stream_is_not_cut_for_silence,
+    a_signal_ends_a_server_in_order,
     a_server_that_was_stopped_goes_on,
     an_end_takes_ten_seconds,
     who_reads_no_answer_before_its_startup_is_let_go,
@@ -428,6 +434,9 @@ ALL = [
     a_transaction_that_is_too_large_is_passed_once_it_is_undone,
     a_stream_whose_chunks_run_short_is_told_of,
     a_log_that_is_nearly_full_is_told_of,
+    a_small_log_never_fills,
+    a_slot_that_lags_holds_the_log,
+    a_slot_that_holds_too_much_is_given_up,
     two_followers_print_what_a_script_commits,
     sixteen_streams_tell_the_same_of_eight_scripts,
     sixteen_clients_at_sixteen_slots,
@@ -472,6 +481,7 @@ ALL = [
     why_a_connection_is_not_taken_is_told,
     who_reads_nothing_any_more_is_let_go,
     a_server_that_was_stopped_goes_on,
+    a_signal_ends_a_server_in_order,
     a_held_stream_is_not_cut_for_silence,
     a_drop_that_waits_ends_with_its_client,
     a_client_that_says_nothing_is_asked_for_by_the_system,

@@ -28,7 +28,7 @@ lines that begin with # are passed over. T is a transaction's name and C a conne
                            a sender of publications starts, as in start c - 0/0 p, where - is
                            no slot
   read C MAX CLOCK         the sender reads up to MAX records of the log
-  keepalive C CLOCK        the sender puts a keepalive behind what it holds
+  keepalive C CLOCK        the sender puts a keepalive after what it holds
   drain C N                up to N bytes go from the sender into the pipe
   deliver C N              up to N bytes go from the pipe to the connection's subscriber
   status C CLOCK           the subscriber sends how far it is into the pipe back

@@ -33,7 +33,7 @@ the slot unless there is one.
 
 With --output FILE it is printed at the end of FILE, and on the disk before it is acknowledged.
 FILE also says where to go on: a run that is killed and started again with the same words cuts off
-what it half wrote, begins behind the last transaction of FILE, and prints none twice. POSITION is
+what it half wrote, begins after the last transaction of FILE, and prints none twice. POSITION is
 where it begins if FILE is empty, and COUNT counts the transactions of FILE. FILE.system keeps which
 system FILE is of.
 
@@ -52,7 +52,7 @@ With --json each message is an object of JSON, as in wal2json's format-version 2
 each on one line. The last one stands where the stream ends, and the next run on FILE cuts it off.
 What FILE holds has to be in the same form.
 
-It ends with 0 behind COUNT transactions, with 2 where the arguments are refused, and with 1
+It ends with 0 after COUNT transactions, with 2 where the arguments are refused, and with 1
 where the connection, the server, the output or memory fails, or the server is another system. What
 the server refused is printed as server: CODE text.";
 

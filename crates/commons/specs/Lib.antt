@@ -1,4 +1,0 @@
-pub mod Ending
-pub mod Notices
-pub mod Published
-pub mod Refusals

@@ -1,0 +1,4 @@
+pub mod Crossing
+pub mod Ends
+pub mod Sparing
+pub mod Telling
