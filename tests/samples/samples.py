@@ -1,4 +1,5 @@
 """Files of samples, one on each line: `CALL GIVEN = MEANING`, or `CALL GIVEN ! FAULT`."""
+import json
 import pathlib
 import re
 
@@ -168,7 +169,29 @@ def code(given):
     return [line_of("codes")], came
 
 
+def hex_of(text):
+    return text.encode().hex()
+
+
+def kind(given):
+    """Texts are written as JSON has them."""
+    name, text = given.split(" ", 1)
+
+    def came(answer):
+        mark, _, sent = answer.partition(" ")
+        return f"= {json.dumps(bytes.fromhex(sent).decode(), ensure_ascii=False)}" if mark == "=" else answer
+
+    return [line_of("kind", name, hex_of(json.loads(text)))], came
+
+
+def order(given):
+    name, texts = given.split(" ", 1)
+    return [line_of("order", name, *map(hex_of, json.loads(f"[{texts}]")))], text_of
+
+
 TEXTS = {
+    "kind": kind,
+    "order": order,
     "command": text("command", meanings.command, unquoted),
     "position": position_text,
     "event": text("event", meanings.event, lambda given: unquoted(given).replace("\\r", "\r")),

@@ -176,7 +176,7 @@ fn columns_of(
     Ok(Some(Items::new(columns)))
 }
 
-/// The column behind these, where there is room for one more.
+/// The column after these, where there is room for one more.
 #[tactic(auto, unfolding(crate::specs::Config::next_column))]
 fn next_column(
     alloc: Global,

@@ -1,7 +1,7 @@
 //! What the help texts of the programs share that read a configuration.
 
-/// A help text: a sample configuration up to the tables of its publication, what is told behind that, the lines of a session as
-/// scripts and schedules write them, and what is told behind those.
+/// A help text: a sample configuration up to the tables of its publication, what is told after that, the lines of a session as
+/// scripts and schedules write them, and what is told after those.
 #[macro_export]
 macro_rules! help_text {
     ($of_configuration:literal, $of_lines:literal) => {

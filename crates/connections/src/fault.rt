@@ -9,7 +9,7 @@ use thiserror::Error;
 
 /// Why one connection was not taken.
 #[derive(Debug, Drop, Error)]
-pub enum Untaken {
+pub enum AcceptError {
     #[error("a connection could not be accepted: {0}")]
     Accept(io::Error),
     #[error("a connection was closed, since {0}")]

@@ -32,7 +32,7 @@ pub enum Came {
 pub struct Patience {
     /// By when the startup has to have come, on the clock, unless it has or may take for ever.
     pub startup_until: Option<Duration>,
-    /// For how long nothing may come behind it.
+    /// For how long nothing may come after it.
     silence: Option<Duration>,
     /// Since when nothing has come, on the clock.
     silent_since: Option<Duration>,
@@ -54,7 +54,7 @@ impl Patience {
         }
     }
 
-    /// The next read waits no longer than the startup may take yet, and behind it for as long as nothing may come. Nothing is left
+    /// The next read waits no longer than the startup may take yet, and after it for as long as nothing may come. Nothing is left
     /// of the startup's limit then.
     pub fn limit_wait<R: Clock>(
         &mut self,

@@ -111,7 +111,7 @@ fn user_at<L: SlotName>(table: &SlotTable<L>, mut seat: SlotSeat<L>) -> Result<U
     Ok(User { seat, place })
 }
 
-/// Each thread's word is so many words behind the one before it.
+/// Each thread's word is so many words after the one before it.
 fn on_words<R: Threads + Sync>(
     rt: &R,
     alloc: Global,

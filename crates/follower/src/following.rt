@@ -5,8 +5,8 @@ use crate::fault::FollowFault;
 use crate::form::Form;
 use crate::incoming::Incoming;
 use crate::json_transcript::JsonTranscript;
-use crate::kept::Kept;
 use crate::options::Options;
+use crate::resume_point::ResumePoint;
 use crate::streamed::{body_in, carried, message_in, print_lines};
 use client::{Applier, ClientFault};
 use clocks::clock_now;
@@ -20,7 +20,7 @@ use std::sync::Wait;
 use std::time::Clock;
 
 /// Asks a server for a stream of the slot, and prints each message on a line, in the form of the options. Behind each Commit, and
-/// behind each message outside of a transaction, it tells the server its position, and once it has as many of these as it should it
+/// after each message outside of a transaction, it tells the server its position, and once it has as many of these as it should it
 /// ends the stream, and reads no more. Then it prints the last line of the form, if it has one.
 ///
 /// K4 is what the server refused. K1 to K3, K5 and K8 are those of an applier. K6 comes where the connection or the output failed,
@@ -53,7 +53,7 @@ struct Following {
 fn transcript_in(alloc: Global, form: Form) -> Option<JsonTranscript> {
     match form {
         Form::Text => None,
-        Form::Json => Some(JsonTranscript::new(alloc, &Kept::new())),
+        Form::Json => Some(JsonTranscript::new(alloc, &ResumePoint::new())),
     }
 }
 
@@ -164,7 +164,7 @@ impl Following {
         }
     }
 
-    /// Prints what stands behind all.
+    /// Prints what stands after all.
     fn print_last<W: Write>(&self, output: &mut W) -> Result<(), FollowFault> {
         if let Some(transcript) = &self.transcript {
             print_lines(transcript.summary()?.as_slice(), output)?;

@@ -1,20 +1,20 @@
--- What a desk answers where a stream doesn't begin.
+-- What a backend answers where a stream doesn't begin.
 use Rattle.std.specs.Prelude.{ℕ, Option, Some, None, nat_lt, if◌then◌else◌}
-use Rattle.server.specs.declared.desk_fault.DeskFault.{DeskFault}
-use Rattle.server.specs.declared.desk_fault.DeskFault.TheVariants as desks
-use Rattle.server.specs.declared.desk_fault.StartAhead.{StartAhead}
+use Rattle.server.specs.declared.backend_fault.BackendFault.{BackendFault}
+use Rattle.server.specs.declared.backend_fault.BackendFault.TheVariants as backends
+use Rattle.server.specs.declared.backend_fault.StartAhead.{StartAhead}
 use Rattle.walsender.specs.declared.beginning.ClaimFault.TheVariants as claims
 use Rattle.walsender.specs.declared.beginning.StartFault.{StartFault}
 use Rattle.walsender.specs.declared.beginning.StartFault.TheVariants as starts
-use Rattle.commons.specs.Refusals.{of_publications, of_slot}
+use Rattle.server_state.specs.Refusals.{of_publications, of_slot}
 
-abbrev pub of_start : StartFault → DeskFault
-of_start starts.NoSlot = desks.SlotMissing
+abbrev pub of_start : StartFault → BackendFault
+of_start starts.NoSlot = backends.SlotMissing
 of_start (starts.Publication fault) = of_publications fault
-of_start starts.NoReader = desks.NoReader
+of_start starts.NoReader = backends.NoReader
 of_start (starts.Claim (claims.Slot fault)) = of_slot fault
-of_start (starts.Claim claims.NoEntry) = desks.NoReader
-of_start (starts.Claim claims.Memory) = desks.Memory
+of_start (starts.Claim claims.NoEntry) = backends.NoReader
+of_start (starts.Claim claims.Memory) = backends.Memory
 
 -- a start that lies ahead of all that its slot has confirmed and sent
 abbrev pub ahead_by : ℕ → ℕ → Option StartAhead

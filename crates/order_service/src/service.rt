@@ -8,7 +8,7 @@ use crate::ordering::take_orders;
 use crate::shop::CONFIGURATION;
 use anyhow::Result;
 use catalog::Catalog;
-use hub::{Hub, OpenGate, OpenedHub, serve};
+use hub::{Hub, HubBuilder, NoopObserver, serve};
 use pqformat::Text;
 use publication::Publications;
 use shared_log::LogName;
@@ -42,15 +42,15 @@ fn print_both<R: Print>(rt: &R, followed: &Followed) -> Result<()> {
 }
 
 /// A hub of the shop's tables, whose log has room for 1,000 records.
-fn opened(alloc: Global) -> Result<OpenedHub> {
+fn opened(alloc: Global) -> Result<HubBuilder> {
     let systemid = Text::copy_of(alloc, "shop")?;
     let catalog = Catalog::from_toml(alloc, CONFIGURATION)?;
     let publications = Publications::from_toml(alloc, CONFIGURATION, &catalog)?;
-    Ok(OpenedHub::new(alloc, catalog, publications, systemid, 1000)?)
+    Ok(HubBuilder::new(alloc, catalog, publications, systemid, 1000)?)
 }
 
 /// The log and the slots are named by the call. A hub must be closed, so whatever may fail stands in calls that borrow it.
-fn served<L, R>(rt: &R, alloc: Global, opened: OpenedHub) -> Result<Followed>
+fn served<L, R>(rt: &R, alloc: Global, opened: HubBuilder) -> Result<Followed>
 where
     L: LogName + SlotName + Send + Sync,
     R: Net<Listener = TcpListener, Stream = TcpStream> + Threads + Wait + Clock + Sync,
@@ -74,7 +74,7 @@ where
     let bound = &listener;
     let (served, followed) = thread::join(
         rt,
-        || serve(rt, bound, hub, FOLLOWERS, &OpenGate),
+        || serve(rt, bound, hub, FOLLOWERS, &NoopObserver),
         || order_and_follow(rt, alloc, hub, address),
     );
     served?;

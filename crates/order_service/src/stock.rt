@@ -15,7 +15,7 @@ pub struct Order {
 
 pub const STOCK: [Article; 3] = [
     Article {
-        name: "desk",
+        name: "backend",
         pieces: 2,
         price: 220,
     },
@@ -31,7 +31,7 @@ pub const STOCK: [Article; 3] = [
     },
 ];
 
-/// The first takes the last lamp: of the second order only the desk is left, and of the third nothing.
+/// The first takes the last lamp: of the second order only the backend is left, and of the third nothing.
 pub const ORDERS: [Order; 4] = [
     Order {
         id: 1,
@@ -41,7 +41,7 @@ pub const ORDERS: [Order; 4] = [
     Order {
         id: 2,
         customer: "Ben",
-        articles: &["lamp", "desk"],
+        articles: &["lamp", "backend"],
     },
     Order {
         id: 3,
@@ -51,6 +51,6 @@ pub const ORDERS: [Order; 4] = [
     Order {
         id: 4,
         customer: "Dan",
-        articles: &["desk", "kettle"],
+        articles: &["backend", "kettle"],
     },
 ];

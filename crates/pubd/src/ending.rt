@@ -1,4 +1,4 @@
-//! The end of the server, and of whoever waits at its doors.
+//! The end of the server, and of whoever waits at its listeners.
 
 use crate::scripting::InputLines;
 use hub::Hub;
@@ -19,14 +19,14 @@ const REST: u64 = 50;
 
 /// Where a listener waits: its address, and a second handle of its socket.
 #[derive(Drop)]
-pub struct Door {
+pub struct ListenerHandle {
     pub address: SocketAddr,
     socket: TcpStream,
 }
 
-impl Door {
+impl ListenerHandle {
     fn of(listener: &TcpListener) -> io::Result<Self> {
-        Ok(Door {
+        Ok(ListenerHandle {
             address: listener.local_addr()?,
             socket: TcpStream::from(OwnedFd::from(listener.try_clone()?)),
         })
@@ -34,7 +34,7 @@ impl Door {
 
     fn of_any(listener: Option<&TcpListener>) -> io::Result<Option<Self>> {
         match listener {
-            Some(listener) => Ok(Some(Door::of(listener)?)),
+            Some(listener) => Ok(Some(ListenerHandle::of(listener)?)),
             None => Ok(None),
         }
     }
@@ -45,11 +45,11 @@ impl Door {
     }
 }
 
-/// The doors of the server: for connections, for who asks what runs, if there is one, and for lines.
+/// The listeners of the server: for connections, for who asks what runs, if there is one, and for lines.
 #[derive(Drop)]
-pub struct Doors {
-    pub connections: Door,
-    pub status: Option<Door>,
+pub struct ListenerHandles {
+    pub connections: ListenerHandle,
+    pub status: Option<ListenerHandle>,
     pub input: Arc<InputLines, Global>,
     /// Nobody is told any more what runs.
     is_status_over: AtomicBool,
@@ -59,17 +59,17 @@ pub struct Doors {
     are_connections_over: AtomicBool,
 }
 
-impl Doors {
-    /// The doors at which these listeners wait.
+impl ListenerHandles {
+    /// The listeners at which these threads wait.
     pub fn of(
         alloc: Global,
         connections: &TcpListener,
         status: Option<&TcpListener>,
     ) -> io::Result<Self> {
-        let status = Door::of_any(status)?;
+        let status = ListenerHandle::of_any(status)?;
         let input = input_of(alloc)?;
-        Ok(Doors {
-            connections: Door::of(connections)?,
+        Ok(ListenerHandles {
+            connections: ListenerHandle::of(connections)?,
             status,
             input,
             is_status_over: AtomicBool::new(false),
@@ -116,14 +116,14 @@ fn input_of(alloc: Global) -> Result<Arc<InputLines, Global>, AllocError> {
 
 /// Ends the server: no line of the input is done any more; its streams send what is left, and CopyDone. Ten seconds later it closes
 /// the connections that aren't over.
-pub fn end_server<L, R>(rt: &R, hub: &Hub<L>, doors: &Doors)
+pub fn end_server<L, R>(rt: &R, hub: &Hub<L>, listeners: &ListenerHandles)
 where
     L: LogName + SlotName,
     R: Wait + Clock,
 {
     hub.shut_down(rt);
-    doors.input.close(rt);
-    doors.connections.shut();
+    listeners.input.close(rt);
+    listeners.connections.shut();
     for _ in 0..RESTS {
         if hub.is_deserted(rt) {
             return;

@@ -1,4 +1,4 @@
-//! What `pubd --help` says in front of its words and behind them.
+//! What `pubd --help` says in front of its words and after them.
 
 use command_line::help_text;
 

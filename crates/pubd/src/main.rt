@@ -1,4 +1,11 @@
 //! `pubd CONFIG ADDR CONNECTIONS [SCRIPT]...` serves replication connections, and runs scripts beside them.
+//!
+//! `main.rt` reads the command line (`command.rt`), opens the hub, and starts what runs beside it: listeners, scripts
+//! (`scripting/`), the status page (`status_page.rt`, `status_text.rt`), and reports on standard error (`reports.rt`).
+//! `ending.rt` ends all of it in order.
+//!
+//! Read `main.rt`, `command.rt`, `scripts.rt`, `ending.rt`. One contract is used: a session's line of a script is a call of
+//! `schedule::Sessions::line`; of sockets and threads, runs tell.
 #![tactic(auto)]
 
 mod command;
@@ -30,9 +37,9 @@ use command_fault::CommandFault;
 use command_line::{arguments_of, ended};
 use configuration::{Config, config_at};
 use descriptors::open_standard;
-use ending::{Doors, end_server};
+use ending::{ListenerHandles, end_server};
 use fault::Fault;
-use hub::{Hub, HubSettings, OpenedHub, serve};
+use hub::{Hub, HubBuilder, HubSettings, serve};
 use level::Level;
 use naming::system_name;
 use password::tell_password;
@@ -177,11 +184,11 @@ where
         + Sync
         + 'static,
 {
-    let doors = Doors::of(rt.alloc(), listener, page).map_err(Fault::Listen)?;
+    let listeners = ListenerHandles::of(rt.alloc(), listener, page).map_err(Fault::Listen)?;
     let service = Service {
         listener,
         page,
-        doors: &doors,
+        listeners: &listeners,
         connections: asked.numbers.connections,
         awaited: asked.numbers.awaited,
         level: asked.numbers.level,
@@ -212,7 +219,7 @@ where
     let config = config_at(rt, asked.config)?;
     let told = begin_telling(host, rt.alloc(), config.server().records)?;
     if service.has_input {
-        begin_reading(host, rt.stdin(), &service.doors.input)?;
+        begin_reading(host, rt.stdin(), &service.listeners.input)?;
     }
     let opened = opened(rt, config, asked.numbers)?;
     let done = served::<Brand, R, _>(host, opened, service, &told, &rt.stdout());
@@ -248,11 +255,11 @@ where
 }
 
 /// A hub for this configuration, with those limits that are told.
-fn opened(rt: &HostRuntime, config: Config, numbers: &Numbers) -> Result<OpenedHub, Fault> {
+fn opened(rt: &HostRuntime, config: Config, numbers: &Numbers) -> Result<HubBuilder, Fault> {
     let alloc = rt.alloc();
     let (catalog, publications, server) = config.into_parts();
     let system = system_name(rt, alloc, server.systemid).map_err(Fault::System)?;
-    let opened = OpenedHub::new(alloc, catalog, publications, system, server.records);
+    let opened = HubBuilder::new(alloc, catalog, publications, system, server.records);
     let mut opened = opened.map_err(Fault::Hub)?;
     opened.settings.chunks = numbers.chunks.unwrap_or(server.chunks as u32);
     limit(&mut opened.settings, numbers);
@@ -277,7 +284,7 @@ struct Service<'a> {
     listener: &'a TcpListener,
     /// Where it is told what runs.
     page: Option<&'a TcpListener>,
-    doors: &'a Doors,
+    listeners: &'a ListenerHandles,
     connections: u32,
     awaited: u64,
     level: Level,
@@ -291,7 +298,7 @@ struct Service<'a> {
 /// The log and the slots are named by the call. A hub must be closed, so whatever may fail stands in a call that borrows it.
 fn served<L, R, O>(
     rt: &R,
-    opened: OpenedHub,
+    opened: HubBuilder,
     service: &Service,
     told: &Told,
     output: &O,
@@ -323,7 +330,7 @@ where
     R: Threads + Wait + Clock + Sync,
     O: Print,
 {
-    tell_doors(service.doors, output).map_err(Fault::Output)?;
+    tell_doors(service.listeners, output).map_err(Fault::Output)?;
     let ended_early = AtomicBool::new(false);
     serve_beside(rt, hub, service, told, output, &ended_early)?;
     if ended_early.load(Ordering::SeqCst) {
@@ -371,9 +378,9 @@ where
 }
 
 /// Tells where connections are taken, and where it is told what runs.
-fn tell_doors<O: Print>(doors: &Doors, output: &O) -> io::Result<()> {
-    println!(output; "listening {}", doors.connections.address)?;
-    match &doors.status {
+fn tell_doors<O: Print>(listeners: &ListenerHandles, output: &O) -> io::Result<()> {
+    println!(output; "listening {}", listeners.connections.address)?;
+    match &listeners.status {
         Some(door) => println!(output; "status {}", door.address),
         None => Ok(()),
     }
@@ -390,8 +397,8 @@ where
     L: LogName + SlotName,
     R: Wait + Clock,
 {
-    service.doors.close_status(rt);
-    end_server(rt, hub, service.doors);
+    service.listeners.close_status(rt);
+    end_server(rt, hub, service.listeners);
     Err(AllocError)
 }
 
@@ -412,15 +419,15 @@ where
     let driven = Driven {
         rt,
         hub,
-        doors: service.doors,
-        input: &service.doors.input,
+        listeners: service.listeners,
+        input: &service.listeners.input,
         told,
         ends_with_input: service.ends_with_input,
     };
     let ended = run_input(&driven, output);
     let is_over = has_ended_server(rt, STANDARD_INPUT, ended, told, early);
     if is_over || service.ends_with_input {
-        end_server(rt, hub, service.doors);
+        end_server(rt, hub, service.listeners);
     }
 }
 
@@ -431,7 +438,7 @@ where
     R: Wait + Clock,
 {
     if let Some(page) = service.page {
-        serve_status(rt, hub, page, service.doors);
+        serve_status(rt, hub, page, service.listeners);
     }
 }
 
@@ -443,9 +450,9 @@ where
 {
     let reports = Reports::new(rt, hub.alloc(), told, service.level);
     let served = serve(rt, service.listener, hub, service.connections, &reports);
-    service.doors.end_connections();
+    service.listeners.end_connections();
     hub.end_awaiting(rt);
-    service.doors.close_status(rt);
+    service.listeners.close_status(rt);
     match served {
         Err(fault) if !hub.is_ending() => {
             told.line(rt, format_args!("pubd: {fault}"));
@@ -462,5 +469,5 @@ where
     R: Threads + Wait + Clock + Sync,
 {
     hub.await_streams(rt, service.awaited);
-    run_all(rt, hub, service.scripts, service.doors, told, early);
+    run_all(rt, hub, service.scripts, service.listeners, told, early);
 }

@@ -70,7 +70,7 @@ fn push_names(
     push_both(lines, ".", table.name.as_str())
 }
 
-/// Adds these words, and as much of the text behind them as a line shows.
+/// Adds these words, and as much of the text after them as a line shows.
 fn push_both(lines: &mut String, words: &str, text: &str) -> Result<(), AllocError> {
     lines.push_str(words)?;
     lines.push_str(beginning(text))
@@ -211,7 +211,7 @@ fn push_line(lines: &mut String, text: &str) -> Result<(), AllocError> {
     push_both(lines, "\n    ", text.split('\n').next().unwrap_or(""))
 }
 
-/// Adds the mark behind as many blanks as there are characters before it; a tab stands below a tab.
+/// Adds the mark after as many blanks as there are characters before it; a tab stands below a tab.
 fn push_mark(lines: &mut String, before: &str) -> Result<(), AllocError> {
     lines.push_str("\n    ")?;
     for c in before.chars() {

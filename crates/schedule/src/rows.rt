@@ -45,7 +45,7 @@ pub(crate) fn key_of(
     Ok(Row::new(values))
 }
 
-/// The kind of the first column of the primary key, and the columns behind it.
+/// The kind of the first column of the primary key, and the columns after it.
 fn first_key_of(columns: &[Column]) -> (Kind, &[Column])
     ensures kind { result.0 ≡ first_kind (key_columns columns.now) }
     ensures rest { key_columns result.1.now ≡ drop 1 (key_columns columns.now) }
@@ -60,7 +60,7 @@ fn first_key_of(columns: &[Column]) -> (Kind, &[Column])
     (Kind::Int8, left)
 }
 
-/// The kind of the first column, and the columns behind it.
+/// The kind of the first column, and the columns after it.
 fn first_of(columns: &[Column]) -> (Kind, &[Column])
     ensures kind { result.0 ≡ first_kind columns.now }
     ensures rest { result.1.now ≡ drop 1 columns.now }

@@ -1,5 +1,11 @@
 //! Passwords by SCRAM-SHA-256, as PostgreSQL has them: what a server keeps of a password, and its side of an exchange that proves
 //! that a client knows it. No socket, no randomness of its own.
+//!
+//! `Verifier` is what a server keeps, `Exchange` the server's side of RFC 5802's messages, and `Login` the same in the bodies of
+//! PostgreSQL's authentication frames. `hmac.rt` and `pbkdf2.rt` stand on a given SHA-256.
+//!
+//! Read `login.rt`, `server_exchange.rt`, `verifier.rt`. Above, one contract is used: a login succeeds only where the client
+//! proved that it knows the key of the user that it named (`Login::answer`: `proved`).
 #![tactic(auto)]
 
 mod account;

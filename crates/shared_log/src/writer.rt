@@ -52,7 +52,7 @@ impl<L: LogName> Model for LogWriter<L> {
 
     ghost view = { λ w. record { records = settled_records w.state; given = w.given } };
 
-    ghost invariant = { λ w. let shown = w.writer.desk.shown.value in
+    ghost invariant = { λ w. let shown = w.writer.backend.shown.value in
         Shows (settled_records w.state) w.edge w.given shown.mark.seen.log shown.edge
         (kept_in shown.records.items) (drop w.writer.behind w.writer.log.items) };
 }
@@ -313,8 +313,8 @@ fn copies_of<L: LogName, R: Wait>(
     requires fresh { front.now ≡ [] }
     requires some { 0 < readers }
     requires few { readers ≤ 32 }
-    ensures shown { IfOk result (λ made. IsEmptyCopy made.0.desk.shown.value
-        × (made.0.desk.shown.value.mark.seen.log ≡ [])) }
+    ensures shown { IfOk result (λ made. IsEmptyCopy made.0.backend.shown.value
+        × (made.0.backend.shown.value.mark.seen.log ≡ [])) }
     ensures waits { IfOk result (λ made. drop made.0.behind made.0.log.items ≡ []) }
     ensures readers { IfOk result
         (λ made. (vec_len made.1 ≡ readers)
@@ -340,8 +340,8 @@ fn writer_of<L: LogName>(
     requires fresh { (mark.now.seen.log ≡ []) × (mark.now.seen.book ≡ L.book) }
     requires some { 0 < readers }
     requires few { readers ≤ 32 }
-    ensures shown { IfOk result (λ writer. IsEmptyCopy writer.desk.shown.value
-        × (writer.desk.shown.value.mark.seen.log ≡ [])) }
+    ensures shown { IfOk result (λ writer. IsEmptyCopy writer.backend.shown.value
+        × (writer.backend.shown.value.mark.seen.log ≡ [])) }
     ensures waits { IfOk result (λ writer. drop writer.behind writer.log.items ≡ []) }
 {
     let first = LogCopy::empty(alloc, records, mark)?;

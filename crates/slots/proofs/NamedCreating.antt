@@ -1,4 +1,4 @@
--- What a create at a table's only seat leaves: it takes the place behind those that were made.
+-- What a create at a table's only seat leaves: it takes the place after those that were made.
 use Rattle.std.proofs.Common.{◌≡◌, ℕ, zero, suc, ◌+◌, ◌<◌, ◌≤◌, max, Bool, ◌||◌, List, [], ◌∷◌, ◌++◌, length, refl, sym, ap, subst, ◌∙◌, arith, append_assoc, append-nil, ⊎_elim, ne_eqb}
 use Rattle.std.proofs.lemmas.Bool.{cases_eq, cases_lt}
 use Rattle.slots.specs.declared.step.SlotKind.TheVariants.{Create, Raise, Release}

@@ -1,5 +1,12 @@
 //! Replication slots: a table of slots that threads share without a lock, the names of slots, and slots by name for a machine
 //! that makes all their steps by one seat.
+//!
+//! A slot is one word of an atomic table: missing, free or held, with its confirmed position (`slot_word.rt`). `SlotTable` has
+//! the steps that threads take (`table.rt`), each for a `SlotSeat`; `Directory` has the names; `NamedSlots` and `HeldSlots` put
+//! the two together for one thread.
+//!
+//! Read `slot_word.rt`, `step.rt`, `table.rt`, `directory.rt`. Above, one law is used: between any two steps a slot has at most
+//! one holder, and its position never goes back (`no_slot_has_two_holders`).
 #![tactic(auto)]
 
 mod directory;

@@ -3,7 +3,7 @@
 use crate::fault::Fault;
 use crate::journal::Journal;
 use crate::printout::Printout;
-use follower::{FollowFault, Kept, Options, Output, Pauses, Subscription, resume};
+use follower::{FollowFault, Options, Output, Pauses, ResumePoint, Subscription, resume};
 use std::alloc::Global;
 use std::net::{Net, SocketAddr, TcpListener, TcpStream};
 use std::sync::Wait;
@@ -40,8 +40,8 @@ pub fn keep_in<N: Net<Listener = TcpListener, Stream = TcpStream> + Wait + Clock
     keep_following(rt, net, address, options, &mut subscription, &mut journal)
 }
 
-/// Goes on behind what the output holds, over one connection after the other, until all is printed. Each that was lost is told, with
-/// the pause behind it.
+/// Goes on after what the output holds, over one connection after the other, until all is printed. Each that was lost is told, with
+/// the pause after it.
 fn keep_following<N: Net<Listener = TcpListener, Stream = TcpStream> + Wait + Clock, W: Output>(
     rt: &HostRuntime,
     net: &N,

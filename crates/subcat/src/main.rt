@@ -1,5 +1,10 @@
 //! `subcat [--create] [--json] [--messages] [--follow [--output FILE]] ADDR SLOT POSITION PUBLICATIONS COUNT` follows a slot of a
 //! publisher, and prints each message of its stream, or, over lost connections, each transaction once.
+//!
+//! `command.rt` reads the command line, `printout.rt` follows once, `keeping.rt` follows for good, with a `Journal` as its
+//! output.
+//!
+//! Read `main.rt`, `keeping.rt`, `journal.rt`. One contract is used: that of `follower::resume`, over an output that is a file.
 #![tactic(auto)]
 
 mod command;

@@ -141,6 +141,6 @@ tagged_at tag bytes =
     else (if tag == UUID_TAG then uuid_at bytes >>= (λ n. Ok (values.Uuid n.0, n.1))
     else Err UnknownTag))))))
 
--- the value at the front of the bytes, and what stands behind it
+-- the value at the front of the bytes, and what stands after it
 unfoldable pub value_at : List ℕ → Result (Value × List ℕ) BodyFault
 value_at bytes = short (byte_at bytes) >>= λ tag. tagged_at tag.0 tag.1

@@ -1,4 +1,12 @@
 //! Tables and their rows, and the changes of rows and the messages as the log keeps them.
+//!
+//! `Table` has columns and says which rows it takes; `Row` is a row, `RowRef` one that lies in bytes, `Change` and `message.rt`
+//! what a session writes. `change_body.rt` writes a change's body as the log keeps it, and `change_reading.rt` reads one;
+//! `kinds.rt` has the kinds of columns.
+//!
+//! Read `column.rt`, `table.rt`, `row.rt`, then `change.rt` and `change_body.rt`. Above, two contracts are used: `Table::takes`
+//! says which rows enter, and `read_body` finds a change exactly if the bytes spell it, so that what comes out of the log is
+//! what went in.
 #![tactic(auto)]
 
 mod change;

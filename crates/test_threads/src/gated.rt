@@ -5,7 +5,7 @@ ghost use Rattle.std.specs.Prelude.{◌≡◌};
 use crate::beside::serve_beside;
 use crate::hub_fixture::opened;
 use crate::peer::{connect, read_until, send_query};
-use hub::{Gate, Hub, OpenedHub};
+use hub::{Gate, Hub, HubBuilder};
 use shared_log::LogName;
 use slots::SlotName;
 use std::alloc::Global;
@@ -91,7 +91,7 @@ fn ask_in_turn<R: Clock, S: Read + Write>(
     read_until(alloc, second, b'Z')
 }
 
-fn serve_both<L, R>(rt: &R, alloc: Global, opened: OpenedHub) -> Result<bool, Fail>
+fn serve_both<L, R>(rt: &R, alloc: Global, opened: HubBuilder) -> Result<bool, Fail>
 where
     L: LogName + SlotName + Send + Sync,
     R: Net<Listener = TcpListener, Stream = TcpStream> + Threads + Wait + Clock + Sync,

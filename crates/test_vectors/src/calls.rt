@@ -6,6 +6,7 @@ use crate::fault_texts::{answer_codes, answer_texts};
 use crate::fields::answer_field;
 use crate::filters::answer_filter;
 use crate::framing::{answer_back, answer_front, answer_startup};
+use crate::kind_texts::{answer_kind, answer_order};
 use crate::passwords::{
     answer_hi, answer_hmac, answer_login, answer_proved, answer_verifier, answer_verifier_of,
 };
@@ -30,6 +31,8 @@ pub fn answer_call(alloc: Global, call: &str, given: &str, answer: &mut String) 
         "position" => answer_position(alloc, given, answer),
         "event" => answer_event(alloc, given, answer),
         "catalog" => answer_catalog(alloc, given, answer),
+        "kind" => answer_kind(alloc, given, answer),
+        "order" => answer_order(alloc, given, answer),
         "config" => answer_config(alloc, given, answer),
         "hmac" => answer_hmac(alloc, given, answer),
         "hi" => answer_hi(alloc, given, answer),

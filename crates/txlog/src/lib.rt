@@ -1,5 +1,11 @@
 //! The log of a publisher: what its sessions write, in one order. `Publisher` has the calls; crate `wal` has the records that
 //! they write.
+//!
+//! Begin, change, savepoint, rollback, commit, abort and message are calls of `Publisher`, each in the file of its name
+//! (`changing.rt`, `savepoint.rt`, `noting.rt`, `running.rt`). `Receipt` tells where a commit stands.
+//!
+//! Read `publisher.rt`, `changing.rt`, `tx.rt`. Above, one contract is used: between any two calls the log is well formed and
+//! the rows are its own, and a call writes exactly its record or changes nothing.
 #![tactic(auto)]
 
 mod changing;

@@ -1,4 +1,4 @@
--- A transaction that waits behind all others, and one that doesn't come to wait.
+-- A transaction that waits after all others, and one that doesn't come to wait.
 use Rattle.std.proofs.Common.{◌≡◌, ℕ, ℤ, ◌+◌, List, [], ◌∷◌, ◌++◌, Ok, Err, length, map, inl, sym, ap, subst, ◌∙◌, append_assoc, append-nil, arith}
 use Rattle.std.specs.Prelude.{reverse}
 use Rattle.std.specs.declared.alloc.AllocError.{AllocError}
@@ -20,7 +20,7 @@ use Rattle.walsender.specs.Outgoing.{Grows, IsOutgoing, Queues, StaysQueued, fra
 use Rattle.walsender.specs.Lent.{lent_with}
 use Rattle.walsender.specs.declared.header.Header.{Header}
 use Rattle.walsender.specs.declared.outgoing.Outgoing.{Outgoing}
-use Rattle.walsender.specs.declared.waiting.Waiting.{Waiting}
+use Rattle.walsender.specs.declared.committed_transaction.Waiting.{Waiting}
 use Rattle.walsender.proofs.Framing.{block_is}
 use Rattle.walsender.proofs.Growing.{frames_same, room_made, settled_kept, size_kept, stays}
 use Rattle.walsender.proofs.Lent.{Keeps, keeps_given_back, taken_back, tidy_back}

@@ -22,7 +22,7 @@ use Rattle.walsender.specs.Lent.{LentTransaction}
 use Rattle.walsender.specs.Outgoing.{HoldsSame, IsFilled, IsOutgoing, frames_left, held_behind, held_of, lent_in, lent_of, sent_of}
 use Rattle.walsender.specs.declared.outgoing.Outgoing.{Outgoing}
 use Rattle.walsender.specs.declared.outgoing.TheConstants.{FRAMES_LENGTH}
-use Rattle.walsender.specs.declared.waiting.Waiting.{Waiting}
+use Rattle.walsender.specs.declared.committed_transaction.Waiting.{Waiting}
 use Rattle.walsender.proofs.Lasting.{last_same, last_then, lents_same}
 use Rattle.walsender.proofs.Queueing.{bytes_same, sent_same}
 
@@ -199,7 +199,7 @@ first_moved selection s o o' w ws count good some low room comes is is' made pla
     (subst (AreSelected selection) (sym sent_is) good.sent)
     (λ more. subst (λ (r : _). length (selected_oids selection) ≤ vec_capacity r) (sym relations) (good.capacity (subst (λ (l : List Waiting). 0 < length l) (sym is) (omega arith))))
 
--- bytes that were made behind all changes
+-- bytes that were made after all changes
 pub last_moved : (selection : PublicationSet) (s : ReorderState) (o o' : Outgoing) (count : ℕ) → IsOutgoing selection s o → length o.frames.items ≡ FRAMES_LENGTH
     → ComesToFrames o o' (take count o.made.items) → o.waiting.items ≡ [] → o'.waiting ≡ o.waiting → o'.made.items ≡ drop count o.made.items → o'.placed ≡ o.placed → o'.relations_sent ≡ o.relations_sent
     → HoldsSame selection s s o o'

@@ -11,7 +11,7 @@ use Rattle.walsender.specs.Waiting.{AreSelected, AreWithin, bytes_behind, places
 use Rattle.walsender.specs.Outgoing.{AddsBytes, HasRoom, IsOutgoing, IsSameQueue, IsSized, frames_left, held_behind, held_of, lent_in, lent_of, sent_of, settled_of}
 use Rattle.walsender.specs.declared.outgoing.Outgoing.{Outgoing}
 use Rattle.walsender.specs.declared.outgoing.TheConstants.{FRAMES_LENGTH}
-use Rattle.walsender.specs.declared.waiting.Waiting.{Waiting}
+use Rattle.walsender.specs.declared.committed_transaction.Waiting.{Waiting}
 use Rattle.walsender.proofs.Queueing.{bytes_more, within_more}
 
 -- ---- frames that there was no room for

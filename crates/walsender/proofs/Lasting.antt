@@ -26,7 +26,7 @@ use Rattle.walsender.specs.Published.{has_message, published_as}
 use Rattle.walsender.specs.Sending.{published_by_record, sent_by_record}
 use Rattle.walsender.specs.Waiting.{bytes_behind, changes_bytes, commit_bytes, left_of, ready_states}
 use Rattle.walsender.specs.declared.outgoing.Outgoing.{Outgoing}
-use Rattle.walsender.specs.declared.waiting.Waiting.{Waiting}
+use Rattle.walsender.specs.declared.committed_transaction.Waiting.{Waiting}
 
 -- ---- the last ones
 

@@ -15,7 +15,7 @@ use Rattle.reorder.proofs.Filling.{chunks_each_given_back, chunks_each_lent, set
 use Rattle.walsender.specs.Waiting.{bytes_behind, ready_states}
 use Rattle.walsender.specs.Outgoing.{IsOutgoing, frames_left, held_behind, held_of, lent_of, sent_of}
 use Rattle.walsender.specs.declared.outgoing.Outgoing.{Outgoing}
-use Rattle.walsender.specs.declared.waiting.Waiting.{Waiting}
+use Rattle.walsender.specs.declared.committed_transaction.Waiting.{Waiting}
 use Rattle.walsender.proofs.Emptied.{none_held}
 use Rattle.walsender.proofs.Lasting.{lents_same}
 use Rattle.walsender.proofs.Queueing.{bytes_low, bytes_same, sent_same, waits_some}

@@ -10,7 +10,7 @@ use Rattle.walsender.specs.Outgoing.{HoldsSame, IsFilled, IsOutgoing}
 use Rattle.walsender.specs.Waiting.{AreSelected, Makes, left_of}
 use Rattle.walsender.specs.declared.outgoing.Outgoing.{Outgoing}
 use Rattle.walsender.specs.declared.outgoing.TheConstants.{FRAMES_LENGTH}
-use Rattle.walsender.specs.declared.waiting.Waiting.{Waiting}
+use Rattle.walsender.specs.declared.committed_transaction.Waiting.{Waiting}
 use Rattle.walsender.proofs.Frames.{ComesToFrames, frame_made, mid_length, mid_taken, moved_to}
 
 -- what of the fields is as it was, and what came to them
@@ -64,7 +64,7 @@ module _ (selection : PublicationSet) (s : ReorderState) (o o' : Outgoing) (w w'
       let told = subst (λ (x : Waiting). Makes selection w.clock (left_of selection s.strands.pool w) (left_of selection s.strands.pool x) sent sent' (take count out)) moves makes in
       frame_made selection s o o' w ws w'.next (take count out) good none room comes is (is'.waiting ∙ ap (λ (y : Waiting). y ∷ ws) moves) (ap (λ (b : _). b.items) is'.made) is'.placed told selected capacity
 
-  -- and frames came behind those that there were
+  -- and frames came after those that there were
   pub filled_in_place : IsFilled o o'
   filled_in_place = record { front = is'.front; from = is'.from; low = comes.low; high = comes.high; size = full }
 

@@ -1,4 +1,4 @@
--- What is added to what is on its way out comes behind it.
+-- What is added to what is on its way out comes after it.
 use Rattle.std.proofs.Common.{◌≡◌, ◌<◌, ◌≤◌, ℕ, ◌+◌, ◌-◌, zero, suc, List, [], ◌∷◌, ◌++◌, drop, length, map, take, refl, sym, ap, subst, ◌∙◌, append_assoc, append-nil, arith}
 use Rattle.std.proofs.lemmas.List.{length-append, length-drop, length-take}
 use Rattle.publication.specs.Publications.{PublicationSet}
@@ -8,7 +8,7 @@ use Rattle.pgoutput.specs.declared.published.PublishedChange.{PublishedChange}
 use Rattle.pgoutput.specs.Items.{relations_sent_by_all}
 use Rattle.walsender.specs.Published.{published_changes}
 use Rattle.walsender.specs.Waiting.{AreWithin, bytes_behind, bytes_left, changes_bytes, commit_bytes, left_of, places, ready_states, sent_behind}
-use Rattle.walsender.specs.declared.waiting.Waiting.{Waiting}
+use Rattle.walsender.specs.declared.committed_transaction.Waiting.{Waiting}
 
 -- ---- lists
 
@@ -42,10 +42,10 @@ pub places_low : (made : ℕ) (ws : List Waiting) → AreWithin made ws → plac
 places_low made [] w = omega arith
 places_low made (x ∷ ws) w = let rest = places_low (made - x.before) ws w.1 in let low = w.0 in omega arith
 
--- ---- bytes behind bytes
+-- ---- bytes after bytes
 
 module _ (selection : PublicationSet) (pool : PoolState) where
-  -- bytes more come behind all
+  -- bytes more come after all
   pub bytes_more : (sent made more : List ℕ) (ws : List Waiting) → AreWithin (length made) ws → bytes_behind selection pool sent (made ++ more) ws ≡ bytes_behind selection pool sent made ws ++ more
   bytes_more sent made more [] w = refl
   bytes_more sent made more (x ∷ ws) w =
@@ -81,7 +81,7 @@ module _ (selection : PublicationSet) (pool : PoolState) where
       let some : 0 < length commit = omega arith in
       omega (arith, some, length-append (take w.before made) ((changes ++ commit) ++ rest), length-append (changes ++ commit) rest, length-append changes commit)
 
-  -- a transaction that waits behind all, where all that is made stands before it
+  -- a transaction that waits after all, where all that is made stands before it
   pub bytes_last : (sent made : List ℕ) (ws : List Waiting) (w : Waiting) → AreWithin (length made) ws → places ws + w.before ≡ length made
       → bytes_behind selection pool sent made (ws ++ w ∷ []) ≡ bytes_behind selection pool sent made ws ++ bytes_left selection pool (sent_behind selection pool sent ws) w
   bytes_last sent made [] w within is =

@@ -17,7 +17,7 @@ use Rattle.reorder.specs.declared.ready.Step.TheVariants as steps
 use Rattle.walsender.specs.Published.{published_changes}
 use Rattle.walsender.specs.Spelled.{begin_with, commit_with}
 use Rattle.walsender.specs.declared.header.Header.{Header}
-use Rattle.walsender.specs.declared.waiting.Waiting.{Waiting}
+use Rattle.walsender.specs.declared.committed_transaction.Waiting.{Waiting}
 
 -- a transaction's changes from the next one on, as they are published
 abbrev pub left_of : PublicationSet → PoolState → Waiting → List PublishedChange
@@ -37,7 +37,7 @@ commit_bytes clock h = word_bytes (xlogdata_word h.end clock (commit_with h))
 abbrev pub bytes_left : PublicationSet → PoolState → List ℕ → Waiting → List ℕ
 bytes_left selection pool sent w = changes_bytes selection sent w.clock (left_of selection pool w) ++ commit_bytes w.clock w.header
 
--- All bytes of transactions that wait and of what stands between them: each one's changes come behind so many of the bytes that are made.
+-- All bytes of transactions that wait and of what stands between them: each one's changes come after so many of the bytes that are made.
 abbrev pub bytes_behind : PublicationSet → PoolState → (sent made : List ℕ) → List Waiting → List ℕ
 bytes_behind selection pool sent made [] = made
 bytes_behind selection pool sent made (w ∷ ws) =
@@ -63,7 +63,7 @@ places (w ∷ ws) = w.before + places ws
 abbrev pub ready_states : List Waiting → List ReadyState
 ready_states ws = map (λ w. w.ready) ws
 
--- what is ready, with what a record made ready behind it
+-- what is ready, with what a record made ready after it
 abbrev pub ready_states_with : List ReadyState → Step → List ReadyState
 ready_states_with rs steps.Quiet = rs
 ready_states_with rs (steps.Ready ready) = rs ++ ready ∷ []

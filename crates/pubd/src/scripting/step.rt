@@ -29,11 +29,11 @@ pub enum Steering {
     Resume,
     /// `ask S`: a keepalive asks its client for an answer.
     Ask,
-    /// `cut S`, `cut S N`: its connection is cut, behind N more bytes.
+    /// `cut S`, `cut S N`: its connection is cut, after N more bytes.
     Cut(u64),
 }
 
-/// `await S POSITION`, `await S stream`: the lines behind wait for this, for so many seconds if they are told.
+/// `await S POSITION`, `await S stream`: the lines after wait for this, for so many seconds if they are told.
 #[derive(Drop)]
 pub struct Await {
     pub slot: Text,

@@ -9,4 +9,4 @@ pub invariant_of-self : goal.invariant_of-self
 invariant_of-self g c =
     let log = settled_records c.self.inside.state in
     let inside : oldest log ≤ length log = within (is_in_progress log) log in
-    shows_given log _ _ _ c.self.inside.writer.desk.shown.value _ c.self.invariant (omega (arith, c.max-self-inside.ensures)) (omega (arith, c.max-self-inside.ensures, c.min.ensures, c.oldest.ensures, inside, c.self.invariant.within))
+    shows_given log _ _ _ c.self.inside.writer.backend.shown.value _ c.self.invariant (omega (arith, c.max-self-inside.ensures)) (omega (arith, c.max-self-inside.ensures, c.min.ensures, c.oldest.ensures, inside, c.self.invariant.within))

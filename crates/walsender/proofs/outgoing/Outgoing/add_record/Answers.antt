@@ -6,7 +6,7 @@ use Rattle.reorder.specs.Taking.{HasTaken}
 use Rattle.reorder.proofs.Settling.{taken_settled}
 use Rattle.walsender.specs.Outgoing.{lent_in, lent_of}
 use Rattle.walsender.specs.Waiting.{ready_states}
-use Rattle.walsender.specs.declared.waiting.Waiting.{Waiting}
+use Rattle.walsender.specs.declared.committed_transaction.Waiting.{Waiting}
 use Rattle.walsender.proofs.Noting.{on_ok}
 use Rattle.walsender.proofs.outgoing.Outgoing.add_record.Goals as goal
 

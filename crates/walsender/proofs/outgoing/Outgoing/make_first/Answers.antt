@@ -6,7 +6,7 @@ use Rattle.std.proofs.Common.{◌≡◌, ◌<◌, ◌≤◌, ◌+◌, ◌-◌, �
 use Rattle.walsender.specs.declared.outgoing.Outgoing.{Outgoing}
 use Rattle.walsender.specs.declared.making.TheConstants.{LEAST_ROOM}
 use Rattle.walsender.specs.Outgoing.{HoldsSame, IsFilled}
-use Rattle.walsender.specs.declared.waiting.Waiting.{Waiting}
+use Rattle.walsender.specs.declared.committed_transaction.Waiting.{Waiting}
 use Rattle.walsender.proofs.Frames.{filled_both, first_is, first_moved, less, room_there, same_then}
 use Rattle.walsender.proofs.Placing.{IsPlaced, filled_in_place, made_in_place, same_first}
 use Rattle.walsender.proofs.outgoing.Outgoing.make_first.Goals as goal

@@ -1,0 +1,16 @@
+pub mod Bytes
+pub mod Calendar
+pub mod Characters
+pub mod Clock
+pub mod Decimals
+pub mod Digits
+pub mod Floats
+pub mod Integers
+pub mod Intervals
+pub mod Jsons
+pub mod Kinds
+pub mod Moments
+pub mod Order
+pub mod Truths
+pub mod Uuids
+pub mod Values
