@@ -40,6 +40,10 @@ class WithJdbc {
         PGProperty.REPLICATION.set(properties, "database");
         PGProperty.PREFER_QUERY_MODE.set(properties, "simple");
         PGProperty.ASSUME_MIN_SERVER_VERSION.set(properties, "9.4");
+        String password = System.getenv("PGPASSWORD");
+        if (password != null) {
+            properties.setProperty("password", password);
+        }
         return DriverManager.getConnection("jdbc:postgresql://" + host + ":" + port + "/app", properties);
     }
 

@@ -33,9 +33,9 @@ def end(process):
     process.wait()
 
 
-def run(command, seconds):
-    """Its status and what it says on both outputs. It is ended after so many seconds."""
-    process = begin(command, stdout=subprocess.PIPE, stderr=subprocess.STDOUT, text=True)
+def run(command, seconds, given=None):
+    """Its status and what it says on both outputs, in this environment. It is ended after so many seconds."""
+    process = begin(command, stdout=subprocess.PIPE, stderr=subprocess.STDOUT, text=True, env=given)
     try:
         said, _ = process.communicate(timeout=seconds)
         return process.returncode, said

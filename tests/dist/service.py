@@ -23,7 +23,7 @@ def shell_of(words):
 def served(unit, folder):
     """What is wrong where its commands are run as systemd would."""
     with tempfile.TemporaryDirectory() as runtime:
-        begins, starts, stops = (setting(unit, f"Exec{name}").replace(RUNTIME, runtime) for name in ("StartPre", "Start", "Stop"))
+        begins, starts = (setting(unit, f"Exec{name}").replace(RUNTIME, runtime) for name in ("StartPre", "Start"))
         subprocess.run(begins.split(), check=True)
         command = shell_of(starts.replace(FOLDER, str(folder)))
         server = subprocess.Popen(["/bin/sh", "-c", command], stdout=subprocess.PIPE, stderr=subprocess.STDOUT, text=True)
@@ -32,10 +32,9 @@ def served(unit, folder):
             with open(f"{runtime}/lines", "w") as lines:
                 lines.write("note 'app' 'hello'\n")
             said.append(server.stdout.readline())
-            stop = shell_of(stops).replace("${MAINPID}", str(server.pid))
-            stopping = subprocess.Popen(["/bin/sh", "-c", stop])
+            # As systemd stops a unit.
+            server.terminate()
             status = server.wait(SECONDS)
-            stopping.wait(SECONDS)
         finally:
             server.kill()
         if status or [line.split()[:1] for line in said] != [["listening"], ["status"], ["ok"]]:

@@ -3,7 +3,7 @@
 # What answers a request for encryption, before any frame.
 NO_ENCRYPTION = b"N"
 KINDS = b"RSKZTDCEWdc"
-# All that `Refusal::code` of server has, and `Trouble::code` of hub.
+# All that `Refusal::code` of server has, and `StreamError::code` of hub.
 CODES = {b"08P01", b"0A000", b"22023", b"42601", b"42602", b"42704", b"42710", b"53200", b"53300", b"53400", b"55006"}
 LONGEST = 1_048_576
 

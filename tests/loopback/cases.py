@@ -12,6 +12,15 @@ from asking import (
     questions_are_refused_where_they_may_not_be,
     texts_near_questions_are_refused,
 )
+from authentication import (
+    a_right_password_lets_its_user_in,
+    a_user_has_the_rights_of_its_line,
+    hostile_exchanges_let_nobody_in,
+    nobody_learns_of_users_by_time,
+    passwords_are_read_again,
+    psql_asks_for_a_password_and_gives_it,
+    strangers_shut_nobody_out,
+)
 from beginning import a_start_ahead_of_its_slot_is_refused, a_stream_tells_where_it_is, wrong_keepalive
 from clocks import a_client_sees_clocks_of_its_own_time, a_follower_tells_the_time_whatever_its_server_tells
 from closing import an_acknowledgement_holds_over_a_blocked_write, an_acknowledgement_holds_over_a_close
@@ -33,6 +42,11 @@ from extended import (
     a_stream_takes_no_extended_query,
     an_extended_query_is_refused_and_its_session_goes_on,
 )
+from filling import (
+    a_slot_that_holds_too_much_is_given_up,
+    a_slot_that_lags_holds_the_log,
+    a_small_log_never_fills,
+)
 from followers import (
     a_refusal_without_a_reason_is_one_all_the_same,
     acknowledgements_follow_what_was_printed,
@@ -52,7 +66,6 @@ from limits import (
     a_client_that_says_nothing_is_asked_for_by_the_system,
     a_client_too_many_is_heard_out,
     a_column_of_no_type_is_named,
-    a_place_is_never_used_again,
     a_refusal_is_told_with_what_was_asked,
     a_refusal_names_what_it_is_of,
     a_startup_has_its_time,
@@ -70,6 +83,14 @@ from large import (
 )
 from link import Link
 from passwords import a_name_or_password_that_is_none_is_refused, a_password_becomes_the_line_of_its_user
+from proving import (
+    a_password_is_proved_on_each_connection,
+    a_password_stands_in_a_file,
+    nonces_are_new,
+    subcat_goes_on_only_with_a_server_that_knows_its_password,
+    subcat_proves_its_password,
+    subcat_proves_its_password_to_postgresql,
+)
 from resuming import (
     a_refusal_for_good_ends_it,
     a_silent_server_is_asked_and_then_lost,
@@ -82,6 +103,7 @@ from resuming import (
 )
 from server import FIRST, NOBODY, Server, inserts, printed_of_inserts
 from showing import what_runs_is_told
+from slots import a_namesake_begins_where_it_is_made, as_many_slots_and_streams_as_are_told, places_of_dropped_slots_come_back
 from steering import (
     a_client_is_asked_and_awaited,
     a_connection_is_cut_after_a_byte,
@@ -92,6 +114,7 @@ from steering import (
 from stopping import (
     a_drop_that_waits_ends_with_its_client,
     a_held_stream_is_not_cut_for_silence,
+    a_signal_ends_a_server_in_order,
     a_server_that_was_stopped_goes_on,
     an_end_takes_ten_seconds,
     who_reads_no_answer_before_its_startup_is_let_go,
@@ -263,7 +286,8 @@ def a_client_whose_link_is_cut_is_lost(pubd, subcat):
             each.close()
         client.kill()
         client.communicate()
-        return wrong + server.end()
+        # It listens where others than this host may come.
+        return wrong + server.end([f"pubd: everyone may connect at {link.here}:0: --passwords asks for passwords"])
 
 
 def is_refused(connection, slot, code):
@@ -398,6 +422,7 @@ def a_startup_of_many_parameters_is_answered(pubd, subcat):
 
 # What takes a minute of pauses: it runs beside all others.
 LONG = [
+    nobody_learns_of_users_by_time,
     cuts_and_kills_lose_and_repeat_nothing,
     cuts_and_kills_lose_and_repeat_no_message,
     cuts_and_kills_lose_and_repeat_no_line_of_json,
@@ -428,6 +453,9 @@ ALL = [
     a_transaction_that_is_too_large_is_passed_once_it_is_undone,
     a_stream_whose_chunks_run_short_is_told_of,
     a_log_that_is_nearly_full_is_told_of,
+    a_small_log_never_fills,
+    a_slot_that_lags_holds_the_log,
+    a_slot_that_holds_too_much_is_given_up,
     two_followers_print_what_a_script_commits,
     sixteen_streams_tell_the_same_of_eight_scripts,
     sixteen_clients_at_sixteen_slots,
@@ -441,6 +469,12 @@ ALL = [
     words_of_the_command_line_are_read,
     a_password_becomes_the_line_of_its_user,
     a_name_or_password_that_is_none_is_refused,
+    subcat_proves_its_password,
+    a_password_stands_in_a_file,
+    a_password_is_proved_on_each_connection,
+    subcat_goes_on_only_with_a_server_that_knows_its_password,
+    nonces_are_new,
+    subcat_proves_its_password_to_postgresql,
     closed_descriptors_are_nobody_s,
     nobody_waits_for_a_reader_of_what_is_told,
     a_stream_is_held_and_let_go,
@@ -472,6 +506,7 @@ ALL = [
     why_a_connection_is_not_taken_is_told,
     who_reads_nothing_any_more_is_let_go,
     a_server_that_was_stopped_goes_on,
+    a_signal_ends_a_server_in_order,
     a_held_stream_is_not_cut_for_silence,
     a_drop_that_waits_ends_with_its_client,
     a_client_that_says_nothing_is_asked_for_by_the_system,
@@ -480,7 +515,15 @@ ALL = [
     only_what_is_asked_for_is_told,
     a_refusal_is_told_with_what_was_asked,
     a_refusal_names_what_it_is_of,
-    a_place_is_never_used_again,
+    places_of_dropped_slots_come_back,
+    as_many_slots_and_streams_as_are_told,
+    a_namesake_begins_where_it_is_made,
+    a_right_password_lets_its_user_in,
+    psql_asks_for_a_password_and_gives_it,
+    passwords_are_read_again,
+    a_user_has_the_rights_of_its_line,
+    strangers_shut_nobody_out,
+    hostile_exchanges_let_nobody_in,
     a_word_that_is_none_is_told,
     a_column_of_no_type_is_named,
     acknowledgements_follow_what_was_printed,

@@ -173,4 +173,4 @@ def words_of_the_command_line_are_read(pubd, subcat):
         ran = subprocess.run([program, "--version"], capture_output=True, text=True, timeout=60)
         wrong += [f"its version is {ran.stdout!r}"] * (ran.returncode != 0 or ran.stdout != f"{program.name} (Vondahe) 0.1\n")
     told = subprocess.run([pubd, "--help"], capture_output=True, text=True, timeout=60).stdout
-    return wrong + [f"the help has no kind {kind}" for kind in ("bool", "int2", "uuid") if kind not in told]
+    return wrong + [f"the help has no kind {kind}" for kind in ("bool", "int2", "uuid", "numeric(p,s)", "timestamptz") if kind not in told]

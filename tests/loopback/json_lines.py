@@ -161,7 +161,7 @@ def relation(oid, name, *columns):
 
 def lines_of_json_tell_what_a_server_sends(pubd, subcat):
     """Texts that a script can't say, types without a name, values that aren't sent, numbers that are none, contents that are no text."""
-    kinds = [(1, "k", 23), (0, "v", 1043), (0, "b", 16), (0, "long", 25)]
+    kinds = [(1, "k", 23), (0, "v", 114), (0, "b", 16), (0, "long", 25)]
     due, said = [], [relation(7, 'a "table"', *kinds)]
 
     def told(name, kind, value):
@@ -173,16 +173,16 @@ def lines_of_json_tell_what_a_server_sends(pubd, subcat):
 
     for each in MORE_HOSTILE:
         said.append(b"I\0\0\0\x07" + row(b"N", "1", each, "t", each))
-        due.append(changed("I", columns=[told("k", 23, 1), told("v", 1043, each), told("b", 16, True), told("long", 25, each)]))
+        due.append(changed("I", columns=[told("k", 23, 1), told("v", 114, each), told("b", 16, True), told("long", 25, each)]))
     for number, value in [("-0", 0), ("1e5", 1e5), ("007", "007"), ("+5", "+5"), ("", ""), ("-12", -12), ("NaN", "NaN"), (" 1", " 1"), ("9" * 40, int("9" * 40))]:
         said.append(b"I\0\0\0\x07" + row(b"N", number, None, "f", ""))
-        due.append(changed("I", columns=[told("k", 23, value), told("v", 1043, None), told("b", 16, False), told("long", 25, "")]))
+        due.append(changed("I", columns=[told("k", 23, value), told("v", 114, None), told("b", 16, False), told("long", 25, "")]))
     said.append(b"U\0\0\0\x07" + row(b"N", "1", "x", "true", ...))
-    due.append(changed("U", columns=[told("k", 23, 1), told("v", 1043, "x"), told("b", 16, "true")]))
+    due.append(changed("U", columns=[told("k", 23, 1), told("v", 114, "x"), told("b", 16, "true")]))
     said.append(b"U\0\0\0\x07" + row(b"K", "1", None, None, None) + row(b"N", "2", ..., None, ...))
     due.append(changed("U", columns=[told("k", 23, 2), told("b", 16, None)], identity=[told("k", 23, 1)]))
     said.append(b"D\0\0\0\x07" + row(b"O", "1", None, "f", None))
-    due.append(changed("D", identity=[told("k", 23, 1), told("v", 1043, None), told("b", 16, False), told("long", 25, None)]))
+    due.append(changed("D", identity=[told("k", 23, 1), told("v", 114, None), told("b", 16, False), told("long", 25, None)]))
     for content, member in [(b"\xff\x00\"", {"contenthex": "ff0022"}), (b"\x00\xc3\xa4", {"content": "\0ä"}), (b"", {"content": ""})]:
         said.append(b"M\x01" + struct.pack(">Q", 9) + b"p\n\0" + struct.pack(">I", len(content)) + content)
         due.append({"action": "M", "transactional": True, "lsn": shown(9), "prefix": "p\n", **member})

@@ -91,6 +91,8 @@ def a_log_that_is_nearly_full_is_told_of(pubd, subcat):
             configuration = pathlib.Path(folder) / "small.toml"
             configuration.write_text(CONFIGURATION.read_text().replace("records = 65536", f"records = {places}"))
             with Publisher(pubd, configuration, errors=errors) as publisher:
+                client = Connection(publisher.port)
+                client.create("s")
                 for key in range(places // 2):
                     publisher.commit(f"insert public.item ({key},'b',7)", time=6)
                 try:

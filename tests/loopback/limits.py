@@ -15,8 +15,8 @@ CLOSED = " closed by its client"
 CROWD = "pubd: a connection was closed, since max_connections are served"
 # For longer than a startup of a second may take here, and for how long one may last all the same on a busy machine.
 LATER, LATEST = 1.5, 10
-# Places for slots.
-PLACES = 16
+# The types of columns, as a refusal tells them.
+TYPES = "bool, int2, int4, int8, numeric, numeric(p,s), text, varchar, varchar(n), char(n), bytea, date, time, timestamp, timestamptz and uuid"
 # How many clients that are too many are heard out at once.
 MOST_HEARD = 16
 # How many lines are told of an address within a minute.
@@ -336,20 +336,6 @@ def a_refusal_names_what_it_is_of(pubd, subcat):
         return wrong + server.end()
 
 
-def a_place_is_never_used_again(pubd, subcat):
-    """A slot that was dropped leaves no room for another, and is no slot any more."""
-    with Server(pubd, 1) as server:
-        client = Connection(server.port)
-        for number in range(PLACES):
-            client.create(f"s{number}")
-        wrong = refused(client.create, "another", "53400")
-        client.ask("DROP_REPLICATION_SLOT s0")
-        wrong += refused(client.create, "another", "53400") + refused(client.start, "s0", "42704")
-        client.start("s1")
-        client.close()
-        return wrong + server.end()
-
-
 def refused(ask, slot, code):
     """What is wrong where this has to be refused by this code."""
     try:
@@ -371,8 +357,8 @@ def a_word_that_is_none_is_told(pubd, subcat):
         (pubd, ["--await-streams", "+1", *served, "0"], "pubd: N of --await-streams is a number from 0 to 4294967295"),
         (pubd, ["--max-connections", "0", *served, "0"], "pubd: N of --max-connections is a number from 1 to 4294967295"),
         *((pubd, ["--logical-decoding-work-mem", size, *served, "0"], f"pubd: {WORK_MEMORY}") for size in ("63kB", "2048GBs", "3TB", "")),
-        (pubd, ["--authentication-timeout", "1y", *served, "0"], "pubd: TIME of --authentication-timeout is a number, and ms, s, min, h or d behind it, as in 60s"),
-        (pubd, ["--wal-sender-timeout", "+1s", *served, "0"], "pubd: TIME of --wal-sender-timeout is a number, and ms, s, min, h or d behind it, as in 60s"),
+        (pubd, ["--authentication-timeout", "1y", *served, "0"], "pubd: TIME of --authentication-timeout is a number, and ms, s, min, h or d after it, as in 60s"),
+        (pubd, ["--wal-sender-timeout", "+1s", *served, "0"], "pubd: TIME of --wal-sender-timeout is a number, and ms, s, min, h or d after it, as in 60s"),
         (pubd, ["--status", "9187", *served, "0"], "pubd: ADDR of --status is an address and a port, as in 127.0.0.1:9187"),
         (pubd, ["--log-min-messages", "debug", *served, "0"], "pubd: LEVEL of --log-min-messages is info, warning or error"),
         (subcat, [*followed, "+5"], "subcat: COUNT is a number from 0 to 4294967295"),
@@ -390,18 +376,27 @@ def a_column_of_no_type_is_named(pubd, subcat):
     wrong, text = [], CONFIGURATION.read_text()
     plain = "pubd: in the configuration: N1: table 1 wants columns: a list of 1 to 64 pairs of a name and a type, each name once"
     cases = [
-        ('["qty", "int8"]', '["qty", "bigint"]', ": qty has the type bigint, and there are bool, int2, int4, int8, text and uuid"),
-        ('["qty", "int8"]', '["qty", "Int8"], ["more", "x"]', ": qty has the type Int8, and there are bool, int2, int4, int8, text and uuid"),
+        ('["qty", "int8"]', '["qty", "bigint"]', ": qty has the type bigint, and there are " + TYPES),
+        ('["qty", "int8"]', '["qty", "Int8"], ["more", "x"]', ": qty has the type Int8, and there are " + TYPES),
         ('["qty", "int8"]', '["qty", "a\\nb"]', ""),
         ('["qty", "int8"]', '["qty", "' + "x" * 101 + '"]', ""),
         ('["qty", "int8"]', '["qty"]', ""),
         ('["qty", "int8"]', '["name", "text"]', ""),
     ]
     for was, column, due in cases:
-        with tempfile.NamedTemporaryFile("w", suffix=".toml") as file:
-            file.write(text.replace(was, column))
-            file.flush()
-            ran = subprocess.run([pubd, file.name, "127.0.0.1:0", "0"], capture_output=True, text=True, timeout=60)
-        came = ran.returncode, ran.stdout, ran.stderr
+        came = ended_over(pubd, text.replace(was, column))
         wrong += [f"of {column} it ends with {came}"] * (came != (2, "", f"{plain}{due}\n"))
+    key = "pubd: in the configuration: N1: table 1 wants key: a list of columns, each once"
+    vague = ": id has the type numeric, whose equal values may have several texts: give it its digits, as in numeric(10,2)"
+    came = ended_over(pubd, text.replace('["id", "int4"]', '["id", "numeric"]'))
+    wrong += [f"of a numeric in a key it ends with {came}"] * (came != (2, "", f"{key}{vague}\n"))
     return wrong
+
+
+def ended_over(pubd, configuration):
+    """How it ends over this configuration."""
+    with tempfile.NamedTemporaryFile("w", suffix=".toml") as file:
+        file.write(configuration)
+        file.flush()
+        ran = subprocess.run([pubd, file.name, "127.0.0.1:0", "0"], capture_output=True, text=True, timeout=60)
+    return ran.returncode, ran.stdout, ran.stderr

@@ -157,6 +157,44 @@ def an_end_takes_ten_seconds(pubd, subcat):
                 client.close()
 
 
+def a_signal_ends_a_server_in_order(pubd, subcat):
+    """SIGTERM, which its launcher has blocked: four streams get what was committed, and CopyDone. Where it isn't blocked, that is said."""
+    refused = subprocess.run([pubd, "--end-on-sigterm", CONFIGURATION, "127.0.0.1:0", "forever"], capture_output=True, text=True)
+    wrong = [] if refused.returncode == 2 and "block-signal" in refused.stderr else [f"a signal that isn't blocked: {refused.returncode}, {refused.stderr!r}"]
+    for lines in ((), ("-",)):
+        words = ["env", "--block-signal=TERM", pubd, "--end-on-sigterm", "--log-min-messages", "error", CONFIGURATION, "127.0.0.1:0", "forever", *lines]
+        server = subprocess.Popen(words, stdin=subprocess.PIPE, stdout=subprocess.PIPE, text=True)
+        try:
+            wrong += ended_by_signal(server, bool(lines))
+        finally:
+            server.kill()
+            server.communicate()
+    return wrong
+
+
+def ended_by_signal(server, has_input):
+    """What is wrong with the end of a server, and of the streams of four clients."""
+    port = int(server.stdout.readline().rpartition(":")[2])
+    clients = [Connection(port) for _ in range(4)]
+    for at, client in enumerate(clients):
+        client.create(f"s{at}")
+        client.start(f"s{at}")
+    if has_input:
+        server.stdin.write("begin T\ninsert T public.item (1,'ab',7)\ncommit T 5\n")
+        server.stdin.flush()
+        for _ in range(3):
+            server.stdout.readline()
+    server.terminate()
+    wrong = []
+    for client in clients:
+        came = client.bytes.read()
+        wrong += ["a stream lacks its CopyDone"] * (COPY_DONE not in came)
+        wrong += ["a stream lacks a transaction"] * (has_input and b"ab" not in came)
+        client.close()
+    ended = server.wait(ENDING)
+    return wrong + [f"it ends with status {ended}"] * bool(ended)
+
+
 def a_server_that_was_stopped_goes_on(pubd, subcat):
     """SIGSTOP and SIGCONT, again and again: a stream, a session and a client without a startup go on, and who is silent is still lost."""
     with publisher_of(pubd, "--wal-sender-timeout", "2s") as publisher:

@@ -1,6 +1,34 @@
 """Tables and publications by chance, as TOML for pubd and as statements for PostgreSQL."""
 
-KINDS = "bool", "int2", "int4", "int8", "text", "uuid"
+# The kinds that filters compare.
+COMPARED = "bool", "int2", "int4", "int8", "text", "uuid"
+# Values of those that are kept as the texts that PostgreSQL sends of them.
+AS_TEXT = {
+    "numeric": ("0", "1", "1.00", "-12.5", "NaN", "Infinity", "-Infinity", "12345678901234567890.123456789", "0.000001"),
+    "numeric(10,2)": ("0.00", "1.00", "-1.50", "99999999.99", "-0.01", "NaN"),
+    "numeric(5)": ("0", "7", "-99999"),
+    "varchar": ("", "a", "ab ", "it's", "é€𝄞", "z" * 150),
+    "varchar(12)": ("", "a", "ab ", "it's", "é€𝄞", "twelve chars"),
+    "char(4)": ("    ", "a   ", "it's", "é€𝄞 "),
+    "bytea": ("\\x", "\\x00", "\\x0a27ff", "\\xdeadbeef"),
+    "date": ("2024-02-29", "0001-01-01 BC", "4713-01-01 BC", "5874897-12-31", "10000-01-01", "infinity", "-infinity"),
+    "time": ("00:00:00", "12:00:00.5", "23:59:59.999999", "24:00:00"),
+    "timestamp": ("2024-02-29 12:00:00", "1999-12-31 23:59:59.000001", "0044-03-15 00:00:00 BC", "294276-12-31 23:59:59.999999", "infinity"),
+    "timestamptz": ("2024-02-29 12:00:00+00", "1999-12-31 23:59:59.5+00", "0044-03-15 00:00:00+00 BC", "-infinity"),
+}
+# Texts of them that both refuse.
+REFUSED = {
+    "numeric(10,2)": ("100000000.00", "Infinity", "x"),
+    "varchar(12)": ("thirteen char",),
+    "bytea": ("\\x0", "\\xzz"),
+    "date": ("2023-02-29", "2024-13-01", ""),
+    "time": ("24:00:01", "noon-ish"),
+    "timestamp": ("294277-01-01 00:00:00", "2024-02-30 00:00:00"),
+    "timestamptz": ("2024-02-29 25:00:00+00",),
+}
+KINDS = (*COMPARED, *AS_TEXT)
+# Those of which values may lie apart from their rows.
+STORED_APART = "text", "varchar", "bytea"
 SCHEMAS = "public", "shop", "Größe"
 TABLES = "item", "Order", "tag", "note", "état", "select"
 COLUMNS = "id", "name", "Qty", "of", "größe", "x1", "true", "k"
@@ -30,14 +58,26 @@ def literal(value):
     return text_of(value) if isinstance(value, str) else str(value)
 
 
+def long_value(by, kind):
+    if kind == "bytea":
+        return "\\x" + by.randbytes(2100).hex()
+    return "".join(by.choices("abcdefghijklmnopqrstuvwxyz0123456789", k=by.randint(SHORTEST, LONGEST)))
+
+
 class Table:
     def __init__(self, by, schema, name):
         self.schema, self.name, self.oid = schema, name, None
         names = by.sample(COLUMNS, by.randint(2, 5))
         self.columns = [(each, by.choice(KINDS)) for each in names]
-        self.key = sorted(by.sample(names, by.choice([1, 1, 1, 2])), key=names.index)
+        # Of numerics without places there are equal ones with several texts, so that no key of pubd has them.
+        self.columns[0] = (names[0], "int4") if self.columns[0][1] == "numeric" else self.columns[0]
+        told_apart = [each for each, kind in self.columns if kind != "numeric"]
+        self.key = sorted(by.sample(told_apart, min(by.choice([1, 1, 1, 2]), len(told_apart))), key=names.index)
         self.identity = by.choice(["default", "default", "default", "full", "nothing"])
-        self.long = [each for each, kind in self.columns if kind == "text" and each not in self.key][:2]
+        self.long = [each for each, kind in self.columns if kind in STORED_APART and each not in self.key][:2]
+        if all(dict(self.columns)[each] == "bytea" for each in self.long):
+            # Two long ones are longer than a row.
+            self.long = self.long[:1]
 
     @property
     def dotted(self):
@@ -60,10 +100,13 @@ class Table:
             return by.random() < 0.5
         if kind == "uuid":
             return by.choice(UUIDS)
+        if name in self.long and by.random() < 0.3:
+            return long_value(by, kind)
         if kind == "text":
-            if name in self.long and by.random() < 0.3:
-                return "".join(by.choices("abcdefghijklmnopqrstuvwxyz0123456789", k=by.randint(SHORTEST, LONGEST)))
             return by.choice(TEXTS)
+        if kind in AS_TEXT:
+            refused = name not in self.key and kind in REFUSED and by.random() < 0.03
+            return by.choice((REFUSED if refused else AS_TEXT)[kind])
         least, most = NUMBERS[kind]
         return by.choice([0, 1, 2, 3, 4, 5, least, most, -1]) if name not in self.key else by.choice([0, 1, 2, 3, most])
 
@@ -76,7 +119,7 @@ class Table:
         yield f"CREATE TABLE {self.named} ({', '.join(parts)}, PRIMARY KEY ({keys}))"
         yield f"ALTER TABLE {self.named} REPLICA IDENTITY {self.identity.upper()}"
         for name, kind in self.columns:
-            if kind == "text":
+            if kind in STORED_APART:
                 yield f"ALTER TABLE {self.named} ALTER {quoted(name)} SET STORAGE EXTERNAL"
 
     def toml(self):
@@ -97,7 +140,7 @@ def condition(by, table, names, depth=0):
     if depth < 3 and dice < 0.5:
         return f"({condition(by, table, names, depth + 1)} IS {by.choice(['', 'NOT '])}{by.choice(['TRUE', 'FALSE', 'UNKNOWN'])})"
     name = by.choice(names)
-    if dice < 0.6:
+    if dice < 0.6 or kinds[name] not in COMPARED:
         return f"({quoted(name)} IS {by.choice(['', 'NOT '])}NULL)"
     same = [each for each in names if kinds[each] == kinds[name]]
     sign = by.choice(["=", "<>", "<", "<=", ">", ">=", "!="])

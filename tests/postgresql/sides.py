@@ -1,5 +1,5 @@
 """The two sides of a workload: PostgreSQL, told by statements, and pubd, told by lines."""
-from catalogue import literal, quoted, text_of
+from catalogue import AS_TEXT, literal, quoted, text_of
 from wire import Refused, Session
 
 # What each of pubd's refusals is there: a code, or what a statement that changes no row says.
@@ -10,7 +10,8 @@ GAP = "gap"
 LOCKED = "55P03"
 CODES = {
     "S1": {"42P01"},
-    "S2": {"22003", "23502", "22P02", "42804"},
+    # A table that another transaction empties is waited for before the row is looked at.
+    "S2": {LOCKED, "22001", "22003", "22007", "22008", "22023", "23502", "22P02", "42804"},
     "S3": {"23505"},
     "S4": {NO_ROW},
     "S8": {"3B001"},
@@ -134,6 +135,9 @@ class Postgres:
         columns = ", ".join(quoted(column) for column, _ in table.columns)
         found, _ = session.ask(f"SELECT {columns} FROM {table.named} WHERE {where}")
         if not found:
+            # A value that its column doesn't take is refused all the same.
+            sets = ", ".join(f"{quoted(column)} = {literal(new)}" for (column, _), new in zip(table.columns, row))
+            session.ask(f"UPDATE {table.named} SET {sets} WHERE {where}")
             return NO_ROW
         sets = [f"{quoted(column)} = {literal(new)}" for (column, kind), old, new in zip(table.columns, found[0], row) if value_of(kind, old) != new]
         sets = sets or [f"{quoted(table.key[0])} = {quoted(table.key[0])}"]
@@ -175,6 +179,6 @@ def condition_of(table, key):
 
 
 def value_of(kind, text):
-    if text is None or kind in ("text", "uuid"):
+    if text is None or kind in ("text", "uuid") or kind in AS_TEXT:
         return text
     return text == "t" if kind == "bool" else int(text)

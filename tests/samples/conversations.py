@@ -52,7 +52,7 @@ def talk(events):
 
 
 def asked_of(call):
-    """A call of the desk as its file tells it."""
+    """A call of the backend as its file tells it."""
     kind, *given = call
     if kind.word == "start":
         slot, place, options = given
@@ -64,7 +64,7 @@ def asked_of(call):
 
 
 def outcome(answer):
-    """What came of a conversation: its phase, what the desk was asked, and what was said."""
+    """What came of a conversation: its phase, what the backend was asked, and what was said."""
     *answers, phase, asked, bytes_said = values(answer)
     before = "Startup"
     for came, after in zip(answers[::2], answers[1::2], strict=True):

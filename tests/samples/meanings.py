@@ -115,6 +115,15 @@ def status(it):
     return words("Status", *map(position, (it.written, it.flushed, it.applied)), it.clock, "asks" if it.ask else "")
 
 
+def kind(it):
+    """The kind of a column; of one that is kept as text its type, with what limits it."""
+    if it.word != "AsText":
+        return it.word
+    (told,) = it.inside
+    limit = told.inside[0] if told.inside else None
+    return told.word + (f"({','.join(map(str, limit.named.values()))})" if limit else "")
+
+
 def value(it):
     """A value of a row."""
     if it.word == "Null":
@@ -191,7 +200,7 @@ def table(it):
     head = f"{it.oid} {it.schema}.{it.name} {it.identity.word}"
     if len(it.columns) > 4:
         return f"{head} {len(it.columns)} columns"
-    return words(head, *(f"{column.name}:{column.kind.word}{'*' * column.is_key}" for column in it.columns))
+    return words(head, *(f"{column.name}:{kind(column.kind)}{'*' * column.is_key}" for column in it.columns))
 
 
 def catalog(it):

@@ -184,6 +184,7 @@ TEXTS = {
     "verifier_of": told("verifier_of"),
     "verifier": told("verifier"),
     "proved": told("proved"),
+    "proves": told("proves"),
     "login": told("login"),
     "text": fault_text,
     "code": code,

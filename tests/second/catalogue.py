@@ -1,10 +1,19 @@
 """What a publisher is configured with, by docs/CONFIGURATION.md: tables, publications and filters, with their text in TOML."""
 import dataclasses
+import datetime
 import json
+import re
 import uuid
 
 INTEGERS = {"int2": 16, "int4": 32, "int8": 64}
 OIDS = {"bool": 16, "int8": 20, "int2": 21, "int4": 23, "text": 25, "uuid": 2950}
+# Types kept as text: OID and modifier, and what a text of one is.
+AS_TEXT = {
+    "bytea": (17, -1, lambda text: re.fullmatch(r"\\x([0-9a-f]{2})*", text)),
+    "varchar(4)": (1043, 4 + 4, lambda text: len(text) <= 4 and "\0" not in text),
+    "date": (1082, -1, lambda text: text == "infinity" or is_day(text)),
+    "numeric(4,1)": (1700, (4 << 16) + 1 + 4, lambda text: text == "NaN" or re.fullmatch(r"-?(0|[1-9][0-9]{0,2})\.[0-9]", text) and text != "-0.0"),
+}
 OPERATIONS = "insert", "update", "delete", "truncate"
 
 
@@ -213,3 +222,11 @@ def as_ordered(value):
     if isinstance(value, uuid.UUID):
         return value.bytes
     return value.encode() if isinstance(value, str) else value
+
+
+def is_day(text):
+    """Whether it is a day of four, two and two digits."""
+    try:
+        return bool(re.fullmatch(r"[0-9]{4}-[0-9]{2}-[0-9]{2}", text) and datetime.date.fromisoformat(text))
+    except ValueError:
+        return False

@@ -2,7 +2,7 @@
 import dataclasses
 import uuid
 
-from catalogue import INTEGERS
+from catalogue import AS_TEXT, INTEGERS
 
 FIRST, FIRST_XID = 0x1000000, 700
 MOST_LIVE, MOST_SAVEPOINTS = 256, 16
@@ -302,6 +302,8 @@ def value_of(kind, literal):
         return literal
     if isinstance(literal, str) and kind == "uuid":
         return uuid_of(literal)
+    if isinstance(literal, str) and kind in AS_TEXT and AS_TEXT[kind][2](literal):
+        return literal
     raise Refused("S2")
 
 

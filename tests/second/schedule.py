@@ -2,16 +2,23 @@
 import random
 import uuid
 
-from catalogue import OPERATIONS, Column, Comparison, Configuration, Constant, Is, Joint, Not, Part, Publication, Table
+from catalogue import AS_TEXT, OPERATIONS, Column, Comparison, Configuration, Constant, Is, Joint, Not, Part, Publication, Table
 from publisher import FIRST
 from world import World
 
-KINDS = "bool", "int2", "int4", "int8", "text", "uuid"
+KINDS = "bool", "int2", "int4", "int8", "text", "uuid", *AS_TEXT
 SCHEMAS = "public", "shop"
 NAMES = "id", "name", "Qty", "größe", "true", "k v", 'q"t'
 CONNECTIONS, SESSIONS, SLOTS = ("c", "d", "e"), ("T", "U", "V"), ("s", "t", "u")
 UUIDS = "00000000-0000-0000-0000-000000000000", "6BA7B810-9dad-11d1-80b4-00c04fd430c8", "ffffffff-ffff-ffff-ffff-ffffffffffff"
 TEXTS = "", "a", "ab", "B", "it's", "é€𝄞", "two words"
+# Texts of those that are kept as text, of which a few are none.
+TOLD = {
+    "bytea": ("\\x", "\\x00", "\\x0a27ff", "\\x" + "ab" * 999, "\\x" + "cd" * 1000, "\\xAB", "\\x0", ""),
+    "varchar(4)": ("", "a", "it's", "é€𝄞", "five "),
+    "date": ("2024-02-29", "1970-01-01", "0001-01-01", "infinity", "2023-02-29", "2024-13-01", "2024-1-1"),
+    "numeric(4,1)": ("0.0", "-0.1", "999.9", "NaN", "1000.0", "-0.0", "1", "01.0"),
+}
 LONG = "x" * 2000, "y" * 2001, "z" * 2400
 # A filter is at most so deep.
 DEEPEST = 3
@@ -68,7 +75,7 @@ class Draw:
     def simple(self, table, name, names):
         kinds = dict(table.columns)
         column = Column(name, kinds[name])
-        if self.by.random() < 0.2:
+        if column.kind in AS_TEXT or self.by.random() < 0.2:
             return Is(column, self.by.random() < 0.5, "NULL")
         if column.kind == "bool" and self.by.random() < 0.3:
             return column
@@ -154,6 +161,8 @@ class Draw:
             return self.by.random() < 0.5
         if kind == "text":
             return self.by.choice(TEXTS[:4] if is_of_key and dice < 0.97 else (*TEXTS, *LONG, "w" * 8001)[: 10 + (dice < 0.3)])
+        if kind in AS_TEXT:
+            return self.by.choice(TOLD[kind][:4] if dice < 0.9 else TOLD[kind])
         if kind == "uuid":
             return self.by.choice(UUIDS) if dice < 0.98 else "none"
         most = 2 ** (int(kind[3:]) * 8 - 1) - 1

@@ -2,7 +2,7 @@
 import struct
 import uuid
 
-from catalogue import OIDS
+from catalogue import AS_TEXT, OIDS
 from publisher import Refused
 
 # A text of more bytes isn't sent again where an update leaves it.
@@ -36,6 +36,11 @@ def cell(value):
     else:
         text = value.encode() if isinstance(value, str) else str(int(value)).encode()
     return b"t" + struct.pack(">I", len(text)) + text
+
+
+def type_of(kind):
+    """OID and modifier."""
+    return AS_TEXT[kind][:2] if kind in AS_TEXT else (OIDS[kind], -1)
 
 
 def put_tuple(cells):
@@ -125,7 +130,7 @@ class Selection:
     def relation(self, table):
         letter = {"default": b"d", "full": b"f", "nothing": b"n"}[table.identity]
         columns = [table.columns[at] for at in self.columns(table)]
-        told = (struct.pack(">B", name in table.identified_by) + string(name) + struct.pack(">Ii", OIDS[kind], -1) for name, kind in columns)
+        told = (struct.pack(">B", name in table.identified_by) + string(name) + struct.pack(">Ii", *type_of(kind)) for name, kind in columns)
         head = struct.pack(">I", table.oid) + string(table.schema) + string(table.name) + letter
         return b"R" + head + struct.pack(">H", len(columns)) + b"".join(told)
 

@@ -1,5 +1,5 @@
 -- What a TOML text names as tables. The members of a table are judged in one order, and the first that is wrong is told.
-use Rattle.std.specs.Prelude.{◌≡◌, ℕ, ℤ, pos, nat_abs, int_le, ◌+◌, ◌==◌, nat_lt, Bool, true, ◌&&◌, not, if◌then◌else◌, is_some, List, [], ◌∷◌, ◌++◌, length, codes, Option, Some, None, option_map, ok_or, Result, Ok, Err}
+use Rattle.std.specs.Prelude.{◌||◌, ◌≡◌, ℕ, ℤ, pos, nat_abs, int_le, ◌+◌, ◌==◌, nat_lt, Bool, true, ◌&&◌, not, if◌then◌else◌, is_some, List, [], ◌∷◌, ◌++◌, length, codes, Option, Some, None, option_map, ok_or, Result, Ok, Err}
 use Rattle.std.specs.List.{list_all, list_any}
 use Rattle.std.specs.Str.{bytes_eq}
 use Rattle.toml.specs.Data.{Data, Items, no_items, item, Members, no_members, member, table, get, at, as_str, as_integer, as_array, as_table}
@@ -23,7 +23,7 @@ use Rattle.tables.specs.declared.table.TheConstants.{MAX_COLUMNS}
 use Rattle.catalog.specs.declared.config_member.TheConstants.{MAX_OID}
 use Rattle.catalog.specs.declared.config_table.Unread.{Unread}
 use Rattle.catalog.specs.declared.config_table.Unread.TheVariants as unread
-use Rattle.tables.specs.Kinds.{kind_named}
+use Rattle.tables.specs.Kinds.{identifies, kind_named}
 use Rattle.tables.specs.Tables.{is_name, is_namesake}
 
 -- what is read of what was found, if anything was
@@ -114,12 +114,16 @@ is_more_than known (Some ms) = not (count_of ms == known)
 abbrev pub has_others : Data → Bool
 has_others d = is_more_than (if is_some (get (codes "identity") d) then 6 else 5) (as_table d)
 
+-- Rows can be told apart by the values of its columns.
+abbrev pub is_identifying : List Column → Bool
+is_identifying columns = list_all (λ column. not column.is_key || identifies column.kind) columns
+
 -- the columns, of which some have the names of the key
 unfoldable pub columns_at : Data → Result (List Column) Member
 columns_at d = do
   key ← told_member members.Key (codes "key") names_in d
   columns ← told_member members.Columns (codes "columns") (columns_in key) d
-  if list_all (is_column columns) key then Ok columns else Err members.Key
+  if list_all (is_column columns) key && is_identifying columns then Ok columns else Err members.Key
 
 unfoldable pub table_in : Data → Result Table Member
 table_in d = do

@@ -61,7 +61,7 @@ fn tables_behind(alloc: Global, values: &[Value]) -> Result<Items<Table>, Catalo
     Ok(Items::new(tables))
 }
 
-/// The table behind these, where there is room for one more; a fault is told with its number.
+/// The table after these, where there is room for one more; a fault is told with its number.
 #[tactic(auto, unfolding(crate::specs::Config::next_table))]
 fn next_table(alloc: Global, tables: &[Table], value: &Value) -> Result<Table, CatalogFault>
     ensures value { ReadsTables result (next_table tables.now (view value.now)) }

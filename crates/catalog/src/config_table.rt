@@ -1,14 +1,15 @@
 //! A table in a configuration, with its columns.
 
-ghost use Rattle.std.specs.Prelude.{◌≡◌, ◌<◌, [], length, codes, IfOk, IfSome, option_map};
+ghost use Rattle.std.specs.Prelude.{◌≡◌, ◌<◌, ◌||◌, [], length, codes, not, IfOk, IfSome, option_map};
 ghost use Rattle.tables.specs.declared.table.TheConstants.{MAX_COLUMNS};
 ghost use Rattle.std.specs.List.{list_all};
 ghost use Rattle.toml.specs.Data.{get};
 ghost use Rattle.toml.specs.View.{view, items_view};
 ghost use Rattle.catalog.specs.declared.config_table.Unread.TheVariants.{Memory};
-ghost use Rattle.catalog.specs.Config.{another_column, columns_at, columns_behind, columns_in, has_others, identity_in, is_column, name_in, names_in, next_column, oid_in, pair_in, table_in, told_member, Reads};
+ghost use Rattle.catalog.specs.Config.{another_column, columns_at, columns_behind, columns_in, has_others, identity_in, is_column, is_identifying, name_in, names_in, next_column, oid_in, pair_in, table_in, told_member, Reads};
 ghost use Rattle.std.specs.Option.{ok_or};
 ghost use Rattle.catalog.specs.declared.config_fault.Member.TheVariants as members;
+ghost use Rattle.tables.specs.Kinds.{identifies};
 ghost use Rattle.tables.specs.Tables.{AreColumns, IsName, IsTable};
 
 use crate::config_fault::Member;
@@ -94,7 +95,7 @@ fn columns_at(alloc: Global, table: &Value) -> Result<Items<Column>, Unread>
 {
     let key = key_at(alloc, table)?;
     let columns = columns_beside(alloc, key.as_slice(), table)?;
-    if are_columns(columns.as_slice(), key.as_slice()) {
+    if are_columns(columns.as_slice(), key.as_slice()) && is_identifying(columns.as_slice()) {
         Ok(columns)
     } else {
         Err(Unread::Wrong(Member::Key))
@@ -128,6 +129,19 @@ fn are_columns(columns: &[Column], names: &[Text]) -> bool
     ensures { result ≡ list_all (is_column columns.now) names.now }
 {
     names.iter().all(|name| is_column(columns, name.as_str()))
+}
+
+/// Whether rows can be told apart by the values of the key's columns.
+fn is_identifying(columns: &[Column]) -> bool
+    ensures { result ≡ is_identifying columns.now }
+{
+    columns.iter().all(|column| fits_key(column))
+}
+
+fn fits_key(column: &Column) -> bool
+    ensures { result ≡ (not column.now.is_key || identifies column.now.kind) }
+{
+    !column.is_key || column.kind.identifies()
 }
 
 /// Whether the table has a member that no table has.
@@ -176,7 +190,7 @@ fn columns_of(
     Ok(Some(Items::new(columns)))
 }
 
-/// The column behind these, where there is room for one more.
+/// The column after these, where there is room for one more.
 #[tactic(auto, unfolding(crate::specs::Config::next_column))]
 fn next_column(
     alloc: Global,

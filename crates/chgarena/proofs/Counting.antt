@@ -51,7 +51,7 @@ above ps ns [] n x i counted low is = absurd (omega arith)
 above ps ns (c ∷ cs) n x zero counted low is = let e : at ns x ≡ n = ap (at ns) (sym is) ∙ counted.0 in omega arith
 above ps ns (c ∷ cs) n x (suc i) counted low is = let rest = above ps ns cs (n + length (get_or ps c [])) x i counted.1 (omega arith) is in omega arith
 
--- an entry of a chunk stands behind those before the chunk
+-- an entry of a chunk stands after those before the chunk
 found : (ps : Pages) (ns cs : List ℕ) (n x i j k : ℕ) → AreCounted ps ns n cs → i < length cs → get_or cs i x ≡ x → j < length (get_or ps x []) → at ns x + j ≡ n + k →
     get_or (joined_entries ps cs) k [] ≡ get_or (get_or ps x []) j []
 found ps ns [] n x i j k counted low is in' e = absurd (omega arith)

@@ -50,7 +50,7 @@ module _ (ps : List (Option ℕ)) (at : ℕ) (bs : List ℕ) (fits : at + length
       (ap (λ k. take n (drop from (take k ps))) e ∙
       (ap (take n) (drop-take from m ps) ∙ take-take n m (drop from ps) (omega arith))))
 
-  -- what stands behind it
+  -- what stands after it
   pub behind_it : (from : ℕ) → at + length bs ≤ from → drop from now ≡ drop from ps
   behind_it from high =
       let end = at + length bs in

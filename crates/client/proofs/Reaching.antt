@@ -1,4 +1,4 @@
--- From one subscriber to another: by no word, by one, and one stretch behind the other; and why none goes further.
+-- From one subscriber to another: by no word, by one, and one stretch after the other; and why none goes further.
 use Rattle.std.proofs.Common.{◌≡◌, ℕ, Bool, true, false, cond, eqb, List, [], ◌∷◌, ◌++◌, length, take, drop, Option, Some, None, Result, Ok, Err, refl, sym, ap, subst, ◌∙◌, append_assoc, inl, inr}
 use Rattle.std.specs.Prelude.{◌⊎◌, nat_eq, nat_lt, IfErr}
 use Rattle.std.specs.Result.{IsErrAnd}
@@ -24,7 +24,7 @@ use Rattle.client.specs.Words.{SpellsWord, AreSpelled, IsUnread}
 use Rattle.client.specs.Subscriber.{Subscriber, HalfTransaction, columns_of, fits, fits_old, are_told, judgement_of_change, after_begin, after_relation, after_change, after_note, after_logical_message, after_commit, after_end, after_transaction, with_change, after_message, after_word, after_words, Makes}
 use Rattle.client.specs.Taking.{Reached, Stops}
 
--- a step that fails, or the one behind it
+-- a step that fails, or the one after it
 refused_at : {A B : Type 0} (r : Result A ClientFault) (f : A → Result B ClientFault) (e : ClientFault) → (r >>= f) ≡ Err e → (r ≡ Err e) ⊎ ((x : A) × (r ≡ Ok x) × (f x ≡ Err e))
 refused_at (Ok x) f e is = inr (x, refl, is)
 refused_at (Err d) f e is = let same : d ≡ e = cc in inl (ap Err same)

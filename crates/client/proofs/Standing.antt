@@ -201,7 +201,7 @@ kept : (s t : Subscriber) (r : Result Subscriber ClientFault) → r ≡ Ok t →
 kept s t (Ok u) is same = let e : u ≡ t = cc in subst (λ (x : Subscriber). Same s x) e same
 kept s t (Err e) is same = absurd cc
 
--- the items behind one
+-- the items after one
 behind_one : (p : ℕ) (item : Item) (items : List Item) → position_after p (item ∷ items) ≡ position_after (position_after p (item ∷ [])) items
 behind_one p (KeepaliveItem k) items = refl
 behind_one p (Block clock t) items = refl

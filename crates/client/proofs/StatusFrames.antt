@@ -35,6 +35,6 @@ length-status s =
 pub frame_is : (s : Status) → frame COPY_DATA (status s) ≡ COPY_DATA ∷ 0 ∷ 0 ∷ 0 ∷ 38 ∷ status s
 frame_is s = ap (λ (n : ℕ). COPY_DATA ∷ (int32 (4 + n) ++ status s)) (length-status s) ∙ ap (λ (l : List ℕ). COPY_DATA ∷ (l ++ status s)) four_bytes
 
--- one number behind the other
+-- one number after the other
 pub in_a_row : (h x y z u v : List ℕ) → ((((h ++ x) ++ y) ++ z) ++ u) ++ v ≡ h ++ (x ++ (y ++ (z ++ (u ++ v))))
 in_a_row h x y z u v = append_assoc (((h ++ x) ++ y) ++ z) u v ∙ append_assoc ((h ++ x) ++ y) z (u ++ v) ∙ append_assoc (h ++ x) y (z ++ (u ++ v)) ∙ append_assoc h x (y ++ (z ++ (u ++ v)))

@@ -50,7 +50,7 @@ once = refl
 once_by_law : gained_transactions 0 (block ∷ block ∷ []) ≡ transaction ∷ []
 once_by_law = refl
 
--- at its commit record's own position it is applied, and one behind it is not
+-- at its commit record's own position it is applied, and one after it is not
 at_its_position : gained_transactions 0 (keepalive 0x1000030 ∷ block ∷ []) ≡ transaction ∷ []
 at_its_position = refl
 

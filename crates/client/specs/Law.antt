@@ -17,7 +17,7 @@ IsForward t = t.is_note ≡ false → t.start < t.end
 abbrev pub AreForward : List Item → Type 0
 AreForward items = AllByRecursion IsForward (transactions_of items)
 
--- the position behind these items: the greatest of the old one, the ends of the blocks and the numbers of the keepalives
+-- the position after these items: the greatest of the old one, the ends of the blocks and the numbers of the keepalives
 abbrev pub position_after : ℕ → List Item → ℕ
 position_after p [] = p
 position_after p (KeepaliveItem k ∷ items) = position_after (max p k.position) items
@@ -34,7 +34,7 @@ abbrev pub relations_sent_with : List ℕ → List Item → List ℕ
 relations_sent_with relations_sent [] = relations_sent
 relations_sent_with relations_sent (item ∷ items) = relations_sent_with (relations_sent_after relations_sent item) items
 
--- the next item isn't there whole; behind the last nothing is there
+-- the next item isn't there whole; after the last nothing is there
 abbrev pub IsLess : (ℕ → Relation) → List ℕ → List ℕ → List Item → Type 0
 IsLess relation relations_sent part [] = part ≡ []
 IsLess relation relations_sent part (item ∷ items) = length part < length (frames_of (item_words relation relations_sent item))

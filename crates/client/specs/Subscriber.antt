@@ -80,7 +80,7 @@ abbrev pub after_relation : Option HalfTransaction → Subscriber → Relation �
 after_relation None s m = Err Order
 after_relation (Some half) s m = Ok (record s { tables = tables_with_relation s.tables m })
 
--- a change goes behind the others
+-- a change goes after the others
 abbrev pub with_change : HalfTransaction → ℕ → Logical → HalfTransaction
 with_change half position message = record half { changes = half.changes ++ record { position = position; message = message } ∷ [] }
 
@@ -131,7 +131,7 @@ after_message s start end (logical.Commit m) = after_commit s.half s m
 after_message s start end (logical.Message m) = after_logical_message m.is_transactional s start end m
 after_message s start end message = after_change s.half s start message
 
--- A keepalive inside a transaction is passed over: what it tells may lie behind what is still to come of the transaction.
+-- A keepalive inside a transaction is passed over: what it tells may lie after what is still to come of the transaction.
 abbrev pub after_keepalive : Option HalfTransaction → Subscriber → Keepalive → Subscriber
 after_keepalive None s k = record s { position = max s.position k.position }
 after_keepalive (Some half) s k = s

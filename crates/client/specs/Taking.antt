@@ -31,13 +31,13 @@ Stops UnknownRelation s rest = IsRefused UnknownRelation s rest
 Stops CommitEnd s rest = IsRefused CommitEnd s rest
 Stops e s rest = IsUnread e rest
 
--- whole words were taken, and what is behind them stops it
+-- whole words were taken, and what is after them stops it
 pub record StopsAfter (old : Subscriber) (bytes : List ℕ) (new : Subscriber) (fault : ClientFault) : Type 0 where
   pub rest : List ℕ
   pub reached : Reached old bytes new rest
   pub stops : Stops fault new rest
 
--- Where want of memory stops a call: before it takes a word, or behind whole words, at a frame that stands there whole and holds
+-- Where want of memory stops a call: before it takes a word, or after whole words, at a frame that stands there whole and holds
 -- something to keep.
 abbrev pub StopsForMemory : Subscriber → List ℕ → Subscriber → Type 0
 StopsForMemory old bytes new = (new ≡ old) ⊎ ((rest : List ℕ) × Reached old bytes new rest × TakesMemory rest)

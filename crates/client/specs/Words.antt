@@ -9,7 +9,7 @@ use Rattle.frames.specs.declared.back.Back.{Back}
 use Rattle.frames.specs.declared.back.Back.TheVariants.{CopyData, ErrorResponse}
 use Rattle.copyboth.specs.XLogData.{XLogDataBody}
 use Rattle.copyboth.specs.Server.{SpellsXLogData, SpellsKeepalive}
-use Rattle.pgoutput.specs.declared.fault.OutFault.TheVariants as outs
+use Rattle.pgoutput.specs.declared.fault.PgoutputError.TheVariants as outs
 use Rattle.pgoutput.specs.declared.logical.Logical.{Logical}
 use Rattle.pgoutput.specs.Logical.{SpellsLogical, Stands}
 use Rattle.pgoutput.specs.declared.word.Word.{Word}
@@ -30,7 +30,7 @@ pub record SpellsWord (text : List ℕ) (w : Word) : Type 0 where
   pub short : 4 + length body ≤ FRAME_LIMIT
   pub says : Says body w
 
--- The text is the frames of these words, one behind the other.
+-- The text is the frames of these words, one after the other.
 abbrev pub AreSpelled : List ℕ → List Word → Type 0
 AreSpelled text [] = text ≡ []
 AreSpelled text (w ∷ ws) = (front rest : List ℕ) × (text ≡ front ++ rest) × SpellsWord front w × AreSpelled rest ws

@@ -4,9 +4,9 @@ ghost use Rattle.std.specs.Prelude.{◌≡◌, ◌++◌, ◌∷◌, [], None, On
 ghost use Rattle.client.specs.Subscriber.{after_word, after_message, after_begin, after_change, after_commit, after_logical_message, after_keepalive, after_note, after_relation, note_of, subscriber_at_rest, Makes};
 
 use crate::fault::ClientFault;
-use crate::half::Half;
 use crate::judging::{Tables, judge};
 use crate::note::note_of;
+use crate::open_transaction::OpenTransaction;
 use indexmap::IndexMap;
 use pgoutput::{Begin, Commit, Keepalive, Logical, Message, Published, Relation, Word, XLogData};
 use std::alloc::{AllocError, Global};
@@ -19,7 +19,7 @@ pub(crate) struct Progress {
     position: u64,
     applied: Vec<Published>,
     tables: Tables,
-    half: Option<Half>,
+    half: Option<OpenTransaction>,
 }
 
 impl Model for Progress {
@@ -125,7 +125,7 @@ impl Progress {
         if self.half.is_some() {
             return Err(ClientFault::Order);
         }
-        self.half = Some(Half::new(self.alloc, begin));
+        self.half = Some(OpenTransaction::new(self.alloc, begin));
         Ok(())
     }
 

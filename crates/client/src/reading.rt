@@ -6,7 +6,7 @@ ghost use Rattle.client.specs.Words.{Reads, ReadsBody, ReadsFrame, ReadsMessage,
 use crate::fault::ClientFault;
 use copyboth::{ServerBody, read_server};
 use frames::{Back, FrameFault, read_back};
-use pgoutput::{Keepalive, Logical, OutFault, Word, XLogData, read_logical};
+use pgoutput::{Keepalive, Logical, PgoutputError, Word, XLogData, read_logical};
 use std::alloc::Global;
 
 /// The word at the front, and how many bytes its frame takes; None while no frame is there whole.
@@ -69,7 +69,7 @@ fn message_of(alloc: Global, payload: &[u8]) -> Result<Logical, ClientFault>
 {
     match read_logical(alloc, payload) {
         Ok(message) => Ok(message),
-        Err(OutFault::Memory) => Err(ClientFault::Memory),
+        Err(PgoutputError::Memory) => Err(ClientFault::Memory),
         Err(_) => Err(ClientFault::Frame),
     }
 }

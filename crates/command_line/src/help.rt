@@ -1,7 +1,7 @@
 //! What the help texts of the programs share that read a configuration.
 
-/// A help text: a sample configuration up to the tables of its publication, what is told behind that, the lines of a session as
-/// scripts and schedules write them, and what is told behind those.
+/// A help text: a sample configuration up to the tables of its publication, what is told after that, the lines of a session as
+/// scripts and schedules write them, and what is told after those.
 #[macro_export]
 macro_rules! help_text {
     ($of_configuration:literal, $of_lines:literal) => {
@@ -21,7 +21,8 @@ A configuration names the server, the tables and their publications, as in
   identity = 'default'
   key = ['id']
   columns = [['id', 'int4'], ['name', 'text'], ['qty', 'int8']]
-  # a column's kind is bool, int2, int4, int8, text or uuid
+  # a column's type is bool, int2, int4, int8, text, uuid, numeric, numeric(p,s), varchar,
+  # varchar(n), char(n), bytea, date, time, timestamp or timestamptz
 
   [[publication]]
   name = 'p'

@@ -5,13 +5,13 @@ use clap::{Arg, ArgAction, ArgMatches, Command};
 use std::alloc::{AllocError, Global};
 use std::net::SocketAddr;
 
-/// What `--version` tells behind the program's name.
+/// What `--version` tells after the program's name.
 const VERSION: &str = "(Vondahe) 0.1";
 
 /// In the place of an address, this machine's own.
 const THIS_MACHINE: &str = "localhost:";
 
-/// A program's name, what it is for, what is told behind its words, and its words.
+/// A program's name, what it is for, what is told after its words, and its words.
 #[derive(Clone, Copy)]
 pub struct CommandLine<'a> {
     pub name: &'a str,
@@ -35,7 +35,7 @@ pub enum WordForm<'a> {
     Required,
     /// In its place, as often as it is given.
     Repeated,
-    /// As `--name`, with nothing behind it.
+    /// As `--name`, with nothing after it.
     Flag,
     /// As `--name VALUE`, for this VALUE.
     Option(&'a str),

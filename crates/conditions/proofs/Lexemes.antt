@@ -19,7 +19,7 @@ use Rattle.pqformat.proofs.Quoting.{if_true, if_false, found, whole_takes, whole
 
 -- ---- what is read is spelled
 
--- what stands at the front, behind the blanks
+-- what stands at the front, after the blanks
 pub record Front (bytes : List ℕ) (token : Token) (rest : List ℕ) : Type 0 where
   pub parts : bytes ≡ spelling_of_token token ++ rest
   pub whole : IsWhole token rest
@@ -150,7 +150,7 @@ token_smaller text token rest e = omega (arith, (front_took (after_run classes.B
 
 -- ---- what is spelled is read again
 
--- what stands behind the blanks, and is read there
+-- what stands after the blanks, and is read there
 record Reads (bytes : List ℕ) (token : Token) (rest : List ℕ) : Type 0 where
   begins_so : begins is_blank bytes ≡ false
   read : token_from bytes ≡ token_found token rest

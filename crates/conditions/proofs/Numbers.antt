@@ -14,7 +14,7 @@ value_grows n (b ∷ digits) = omega (arith, value_grows (n * 10 + digit_value b
 pub too_large : (limit v b all : ℕ) (tail : List ℕ) → digits_value_after 10 v (b ∷ tail) ≡ all → limit ≤ v * 10 + digit_value b → limit ≤ all
 too_large limit v b all tail is over = omega (arith, is, over, value_grows (v * 10 + digit_value b) tail)
 
--- ---- behind a sign
+-- ---- after a sign
 
 from_zero : (z : ℤ) → pos 0 +ℤ z ≡ z
 from_zero z = +ℤ_idl z

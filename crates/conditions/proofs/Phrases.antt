@@ -85,7 +85,7 @@ completes (Joining (joints.Comparison how) b) stack a some tight bound fit = rec
   words = λ tail. ap (before stack) (append_assoc (sayings_of b) (SayComparison how ∷ sayings_of a) tail);
 }
 
--- what is left of a stack and a tree behind it, once what waits for a tighter one is completed
+-- what is left of a stack and a tree after it, once what waits for a tighter one is completed
 record Folded (use_tight : ℕ) (stack : Items) (a : Phrase) (left : Items) (b : Phrase) : Type 0 where
   tight : wanted_by left ≤ tightness b
   stops : wanted_by left ≤ use_tight

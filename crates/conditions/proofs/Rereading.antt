@@ -28,7 +28,7 @@ uses (SayIs ∷ rest) = 3
 uses (SayComparison how ∷ rest) = 4
 uses rest = 0
 
--- how tight a joint behind a phrase of this tightness must be looser than, so that it takes the whole phrase
+-- how tight a joint after a phrase of this tightness must be looser than, so that it takes the whole phrase
 abbrev opening_at : ℕ → ℕ
 opening_at zero = 1
 opening_at (suc zero) = 2

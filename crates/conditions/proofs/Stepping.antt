@@ -123,7 +123,7 @@ pushed steps step = ap reverse (map-append turn_of steps (step ∷ [])) ∙ reve
 pub count_of_turns : (steps : List Step) → length (turns steps) ≡ length steps
 count_of_turns steps = length-reverse (map turn_of steps) ∙ length-map steps turn_of
 
--- those of two lists, one behind the other
+-- those of two lists, one after the other
 parted : (steps others : List Step) → turns (steps ++ others) ≡ turns others ++ turns steps
 parted steps others = ap reverse (map-append turn_of steps others) ∙ reverse-append (map turn_of steps) (map turn_of others)
 

@@ -7,12 +7,12 @@ use Rattle.tables.specs.declared.kinds.Value.{Value}
 use Rattle.tables.specs.declared.kinds.Value.TheVariants as values
 use Rattle.tables.specs.Kinds.{uuid_of_text}
 use Rattle.conditions.specs.declared.sort.Sort.{Sort}
-use Rattle.conditions.specs.declared.sort.Sort.TheVariants.{Any, Truths, Numbers, Texts, UuidTexts, Uuids}
+use Rattle.conditions.specs.declared.sort.Sort.TheVariants.{Any, Truths, Numbers, Texts, UuidTexts, Uuids, Incomparable}
 use Rattle.conditions.specs.declared.question.Question.{Question}
 use Rattle.conditions.specs.declared.question.Question.TheVariants as questions
 use Rattle.conditions.specs.Conditions.{Datum, Missing, Flag, Number, Bytes, Uuid, Condition, Column, Literal, Compare, Is, Not, And, Or}
 
--- int2, int4 and int8 are all whole numbers; null is of any kind
+-- int2, int4 and int8 are all whole numbers; null is of any kind; of a kind that is kept as text only whether it is null is asked
 abbrev pub sort_of_kind : Kind → Sort
 sort_of_kind kinds.Bool = Truths
 sort_of_kind kinds.Int2 = Numbers
@@ -20,6 +20,7 @@ sort_of_kind kinds.Int4 = Numbers
 sort_of_kind kinds.Int8 = Numbers
 sort_of_kind kinds.Text = Texts
 sort_of_kind kinds.Uuid = Uuids
+sort_of_kind (kinds.AsText data_type) = Incomparable
 
 -- a value as conditions see it
 abbrev pub datum_of : Value → Datum

@@ -32,7 +32,7 @@ abbrev pub closed_token : (List ℕ → Token) → Option (List ℕ × List ℕ)
 closed_token make None = (Stray, [])
 closed_token make (Some found) = (make found.0, found.1)
 
--- the digits behind a minus
+-- the digits after a minus
 abbrev pub signed_at : List ℕ → Token × List ℕ
 signed_at bytes = if begins is_ascii_digit bytes then (Number (MINUS ∷ run_of classes.Digit bytes), after_run classes.Digit bytes) else (Stray, [])
 
@@ -60,12 +60,12 @@ token_from (b ∷ bytes) = Some (token_behind b bytes)
 unfoldable pub token_at : List ℕ → Option (Token × List ℕ)
 token_at bytes = token_from (after_run classes.Blank bytes)
 
--- all tokens of a text, one behind the other
+-- all tokens of a text, one after the other
 abbrev pub Lexes : List ℕ → List Token → Type 0
 Lexes text [] = token_at text ≡ None
 Lexes text (token ∷ tokens) = (rest : List ℕ) × (token_at text ≡ Some (token, rest)) × Lexes rest tokens
 
--- a token, and the text behind it that a reader lends
+-- a token, and the text after it that a reader lends
 abbrev pub lent_token : Token × Bor (List ℕ) → Token × List ℕ
 lent_token found = (found.0, found.1.now)
 

@@ -34,11 +34,11 @@ datum_of_operand (operands.Number n) = Number n
 datum_of_operand (operands.Text text) = Bytes text.now
 datum_of_operand (operands.Uuid n) = Uuid n
 
--- a place behind others, unless it is there
+-- a place after others, unless it is there
 abbrev pub with_place : ℕ → List ℕ → List ℕ
 with_place place places = if list_any (λ p. p == place) places then places else places ++ place ∷ []
 
--- the places that a condition names, in the order of its text, behind others
+-- the places that a condition names, in the order of its text, after others
 abbrev pub with_places_of : Condition → List ℕ → List ℕ
 with_places_of (Column place) places = with_place place places
 with_places_of (Literal value) places = places

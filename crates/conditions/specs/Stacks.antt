@@ -31,7 +31,7 @@ pub record Trees (A : Type 0) : Type 0 where
   pub asked : Question → Bool → A → A
   pub enclosed : A → A
 
--- A word of a filter. NULL, TRUE, FALSE and a bare unknown are operands, and behind IS they are what it asks.
+-- A word of a filter. NULL, TRUE, FALSE and a bare unknown are operands, and after IS they are what it asks.
 pub data Word (A : Type 0) : Type 0 where
   Joins : Joint → Word A
   Denies : Word A
@@ -58,13 +58,13 @@ completed trees Enclosing a = trees.enclosed a
 completed trees Denying a = trees.denied a
 completed trees (Joining joint b) a = trees.joined joint b a
 
--- What was read: the stack, its top first, and behind it what the next word meets.
+-- What was read: the stack, its top first, and after it what the next word meets.
 pub data State (A : Type 0) : Type 0 where
   -- an operand is wanted
   Wanting : List (Pending A) → State A
   -- a tree stands there
   Having : List (Pending A) → A → State A
-  -- IS stands behind a tree; where the flag is set, IS NOT
+  -- IS stands after a tree; where the flag is set, IS NOT
   Asking : List (Pending A) → A → Bool → State A
 
 abbrev pub wanted_by : {A : Type 0} → List (Pending A) → ℕ
@@ -113,7 +113,7 @@ abbrev pub outcome : {A : Type 0} → Trees A → State A → Option A
 outcome trees (Having stack a) = ends (folded trees 0 stack a)
 outcome trees state = None
 
--- the tree that the words spell behind what was read
+-- the tree that the words spell after what was read
 abbrev pub run : {A : Type 0} → Trees A → State A → List (Word A) → Option A
 run trees state [] = outcome trees state
 run trees state (word ∷ words) = option_and_then (λ next. run trees next words) (step trees state word)

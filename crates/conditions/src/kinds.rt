@@ -25,6 +25,7 @@ impl Sort {
             Kind::Int2 | Kind::Int4 | Kind::Int8 => Sort::Numbers,
             Kind::Text => Sort::Texts,
             Kind::Uuid => Sort::Uuids,
+            Kind::AsText(_) => Sort::Incomparable,
         }
     }
 }

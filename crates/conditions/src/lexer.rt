@@ -120,7 +120,7 @@ fn number(alloc: Global, text: &[u8]) -> Result<(Token, &[u8]), AllocError>
     Ok((Token::Number(Items::new(bytes)), rest))
 }
 
-/// The number behind a minus, which was read.
+/// The number after a minus, which was read.
 fn signed(alloc: Global, text: &[u8]) -> Result<(Token, &[u8]), AllocError>
     ensures { IfOk result (λ x. lent_token x ≡ signed_at text.now) }
 {
@@ -207,7 +207,7 @@ fn first_token(alloc: Global, text: &[u8]) -> Result<Option<(Token, &[u8])>, All
     Ok(Some(token_behind(alloc, *b, front, tail)?))
 }
 
-/// The tokens of a text, one behind the other; the last one is stray where it has none.
+/// The tokens of a text, one after the other; the last one is stray where it has none.
 fn tokens_of(alloc: Global, text: &[u8]) -> Result<Vec<Token>, AllocError>
     ensures { IfOk result (λ tokens. Lexes text.now tokens.items) }
 {

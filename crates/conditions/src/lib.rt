@@ -1,4 +1,11 @@
 //! Conditions over the row of a table: their words, the trees that these come to, their kinds, and what they are of a row.
+//!
+//! A text becomes tokens (`lexer.rt`, `token.rt`), these a tree of parts (`part.rt`) that grows over `pending.rt`, and that an
+//! `Expression` of steps (`steps.rt`), which `against.rt` runs over a row without memory. `kinds.rt` and `comparison.rt` say
+//! what may be compared, and `truth.rt` has SQL's three values.
+//!
+//! Read `token.rt`, `part.rt`, `expression.rt`, `truth.rt`. Above, `rowfilter` uses one contract: what the steps come to of a
+//! row is what the tree means of it.
 #![tactic(auto)]
 
 mod against;

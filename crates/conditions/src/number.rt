@@ -50,7 +50,7 @@ fn magnitude(digits: &[u8]) -> Option<u64>
     Some(value)
 }
 
-/// The integer that digits write, behind a minus if there is one; None where it is of over 64 bits.
+/// The integer that digits write, after a minus if there is one; None where it is of over 64 bits.
 #[tactic(auto, using(crate::proofs::Numbers::read_positive, crate::proofs::Numbers::read_negative, crate::proofs::Numbers::large_positive, crate::proofs::Numbers::large_negative))]
 pub(crate) fn integer(bytes: &[u8]) -> Option<i64>
     ensures { result ≡ integer_if (integer_of bytes.now) }

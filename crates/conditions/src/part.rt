@@ -84,7 +84,7 @@ impl Part {
         })
     }
 
-    /// IS behind the part, or IS NOT, and what it asks.
+    /// IS after the part, or IS NOT, and what it asks.
     pub(crate) fn asked(
         self,
         alloc: Global,

@@ -44,7 +44,7 @@ impl Pending {
     }
 }
 
-/// How tight a part binds at least behind these, the last of which waits for it.
+/// How tight a part binds at least after these, the last of which waits for it.
 #[tactic(auto, using(crate::proofs::Stacking::stack_pushed))]
 pub(crate) fn wanted_by(pending: &[Pending]) -> usize
     ensures { result ≡ wanted_by (stack_of pending.now) }

@@ -20,12 +20,12 @@ pub enum Place {
     Wanting,
     /// A part stands there.
     Having(Part),
-    /// IS stands behind a part; where the flag is set, IS NOT.
+    /// IS stands after a part; where the flag is set, IS NOT.
     Asking(Part, bool),
 }
 
 impl Place {
-    /// The place behind one word more; Syntax where the word can't stand here.
+    /// The place after one word more; Syntax where the word can't stand here.
     pub fn next(
         self,
         alloc: Global,
@@ -66,7 +66,7 @@ fn awaits(pending: &mut Vec<Pending>, item: Pending) -> Result<Place, FilterFaul
     Ok(Place::Wanting)
 }
 
-/// A word behind a part.
+/// A word after a part.
 fn followed(
     alloc: Global,
     pending: &mut Vec<Pending>,
@@ -136,7 +136,7 @@ fn closed_by(item: Pending, inner: Part) -> Result<Place, FilterFault>
     }
 }
 
-/// A word behind IS or IS NOT.
+/// A word after IS or IS NOT.
 fn answered(alloc: Global, part: Part, is_negated: bool, word: &Word) -> Result<Place, FilterFault>
     ensures { (items : List Item) →
         Moves result items
@@ -151,7 +151,7 @@ fn answered(alloc: Global, part: Part, is_negated: bool, word: &Word) -> Result<
     }
 }
 
-/// The one part behind the last word; Syntax where something still waits.
+/// The one part after the last word; Syntax where something still waits.
 #[tactic(auto, using(crate::proofs::Stacking::ends_none))]
 pub fn whole(alloc: Global, pending: &mut Vec<Pending>, place: Place) -> Result<Part, FilterFault>
     ensures { GivesPart result (outcome parts (state_of pending.old.items place)) }

@@ -19,6 +19,8 @@ pub enum Sort {
     Texts,
     UuidTexts,
     Uuids,
+    /// Of a kind whose values aren't compared.
+    Incomparable,
 }
 
 impl Sort {
@@ -62,6 +64,7 @@ impl Sort {
         match self {
             Sort::Any | Sort::Truths => true,
             Sort::Numbers | Sort::Texts | Sort::UuidTexts | Sort::Uuids => false,
+            Sort::Incomparable => false,
         }
     }
 

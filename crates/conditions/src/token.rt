@@ -14,7 +14,7 @@ pub(crate) const MINUS: u8 = b'-';
 pub enum Token {
     /// A keyword or a bare name.
     Word(Items<u8>),
-    /// Digits, behind a minus if there is one.
+    /// Digits, after a minus if there is one.
     Number(Items<u8>),
     /// A name in double quotes.
     Quoted(Items<u8>),

@@ -24,7 +24,7 @@ use pqformat::Items;
 use std::alloc::{AllocError, Global};
 use tables::Column;
 
-/// What a token says. NULL, TRUE, FALSE and a bare `unknown` are operands, and behind IS they are what it asks.
+/// What a token says. NULL, TRUE, FALSE and a bare `unknown` are operands, and after IS they are what it asks.
 #[derive(Drop)]
 pub enum Word {
     Joint(Joint),

@@ -4,7 +4,7 @@ ghost use Rattle.std.specs.Prelude.{◌≡◌};
 ghost use Rattle.toml.specs.View.{view};
 ghost use Rattle.configuration.specs.Config.{IsServer, Names, ReadsSetting, named_by, setting_in};
 
-use crate::columns::{KINDS, Untyped, untyped_column};
+use crate::columns::{KINDS, Untyped, untyped_column, vague_column};
 use crate::config_fault::ConfigFault;
 use crate::server::{Server, server_of};
 use catalog::{Catalog, CatalogFault, Member, Misfit, read_document};
@@ -12,6 +12,10 @@ use publication::{PubFault, Publications};
 use std::alloc::{AllocError, Global};
 use std::marker::Model;
 use toml::Value;
+
+/// What is said of a column of a key by whose values rows can't be told apart.
+const VAGUE: &str =
+    ", whose equal values may have several texts: give it its digits, as in numeric(10,2)";
 
 /// The most bytes of a word that a line shows.
 const MOST_SHOWN: usize = 100;
@@ -52,6 +56,9 @@ pub fn explained(alloc: Global, text: &str, fault: &ConfigFault) -> Result<Strin
         ConfigFault::Catalog(CatalogFault::BadTables(Misfit::Table(table, Member::Columns))) => {
             of_columns(alloc, text, fault, *table)
         }
+        ConfigFault::Catalog(CatalogFault::BadTables(Misfit::Table(table, Member::Key))) => {
+            of_key(alloc, text, fault, *table)
+        }
         _ => fault.to_string(alloc),
     }
 }
@@ -86,7 +93,32 @@ fn of_columns(
     Ok(line)
 }
 
+/// The fault, and the column of the key that no key may have, unless a line can't show it.
+fn of_key(
+    alloc: Global,
+    text: &str,
+    fault: &ConfigFault,
+    table: usize,
+) -> Result<String, AllocError> {
+    let mut line = fault.to_string(alloc)?;
+    if let Ok(document) = read_document(alloc, text) {
+        if let Some(column) = vague_column(&document, table) {
+            push_typed(&mut line, &column, VAGUE)?;
+        }
+    }
+    Ok(line)
+}
+
 fn push_untyped(line: &mut String, column: &Untyped<'_>) -> Result<(), AllocError> {
+    push_typed(line, column, ", and there are ")?;
+    if is_shown(column.name) && is_shown(column.kind) {
+        line.push_str(KINDS)?;
+    }
+    Ok(())
+}
+
+/// Adds the column with its type, and these words after it.
+fn push_typed(line: &mut String, column: &Untyped<'_>, words: &str) -> Result<(), AllocError> {
     if !is_shown(column.name) || !is_shown(column.kind) {
         return Ok(());
     }
@@ -94,8 +126,7 @@ fn push_untyped(line: &mut String, column: &Untyped<'_>) -> Result<(), AllocErro
     line.push_str(column.name)?;
     line.push_str(" has the type ")?;
     line.push_str(column.kind)?;
-    line.push_str(", and there are ")?;
-    line.push_str(KINDS)
+    line.push_str(words)
 }
 
 /// The fault, what the reader of TOML says of it, and the word at which it stopped, as of a key that is given twice.

@@ -12,13 +12,14 @@ use Rattle.slots.proofs.lease.Lease.TheSendSync as lease
 use Rattle.slots.proofs.seat.SlotSeat.TheSendSync as seat
 use Rattle.connections.proofs.fault.ConnectionEnd.TheSendSync as end
 use Rattle.connections.proofs.fault.Unserved.TheSendSync as unserved
+use Rattle.connections.proofs.slot_keeping.SlotKeeping.TheSendSync as keeping
 use Rattle.connections.specs.contracts.arrival.Arrival as arrival
 use Rattle.connections.specs.contracts.arrival.Arriving as arriving
 use Rattle.connections.specs.contracts.hold.Hold as hold
 use Rattle.connections.specs.contracts.inbox.Inbox as inbox
 use Rattle.connections.specs.contracts.latch.Latch as latch
-use Rattle.connections.specs.contracts.slot_post.KnownSlot as known
-use Rattle.connections.specs.contracts.slot_post.SlotPost as post
+use Rattle.connections.specs.contracts.slot_monitor.SlotSnapshot as known
+use Rattle.connections.specs.contracts.slot_monitor.SlotMonitor as monitor
 use Rattle.connections.specs.contracts.sockets.ServedSocket as served
 use Rattle.connections.specs.contracts.sockets.Sockets as sockets
 
@@ -43,12 +44,15 @@ known_send = declared_send known.the_type (
   search sendable,
   (
     search (text.the_send, sendable) depth 10,
-    (search sendable, (search sendable depth 10, (search sendable, (search sendable, (search sendable, (search sendable, (search sendable, (search sendable depth 20, (search sendable depth 10, (search sendable depth 20, (search sendable, (search sendable, (search sendable, tt))))))))))))),
+    (
+      search (text.the_send, sendable) depth 10,
+      (search sendable, (search sendable depth 10, (search sendable, (search sendable, (search sendable, (search sendable, (search sendable, (search sendable depth 20, (search sendable depth 10, (search sendable depth 20, (search sendable, (search sendable, (search sendable, (keeping.the_send, tt)))))))))))))),
+    ),
   ),
 )
 
-pub post_sync : IsSync post.the_row
-post_sync = declared_sync post.the_type (search (known_send, heap.crosses, sendable) depth 20, (search (heap.crosses, sendable) depth 10, tt))
+pub monitor_sync : IsSync monitor.the_row
+monitor_sync = declared_sync monitor.the_type (search (known_send, heap.crosses, sendable) depth 20, (search (heap.crosses, sendable) depth 10, tt))
 
 served_send : IsSend served.the_row
 served_send = declared_send served.the_type (search sendable, (socket.the_send, tt))

@@ -6,6 +6,7 @@ use Rattle.slots.specs.Directories.{AreSame, ChangesOnly, adding_fault, place_of
 use Rattle.slots.specs.declared.directory.Directory.{Directory}
 use Rattle.slots.specs.declared.fault.SlotFault.{SlotFault}
 use Rattle.slots.specs.declared.step.View.{View}
+use Rattle.slots.specs.declared.table.TheConstants.{END_OF_PLACES}
 use Rattle.connections.specs.Names.{AreInTable, IsMadeAndDropped, IsNoNewSlot}
 
 pub none_in_table : (names : Directory) → ((name : List ℕ) → place_of names name ≡ None) → AreInTable names
@@ -14,17 +15,17 @@ none_in_table names empty name place is = let e : None ≡ Some place = sym (emp
 pub same_in_table : (old new : Directory) → AreSame old new → AreInTable old → AreInTable new
 same_in_table old new same inside name place is = inside name place (sym (same name) ∙ is)
 
-chosen : (is : Bool) (at : Option ℕ) (was : Option ℕ) → ((x : ℕ) → at ≡ Some x → x < 16) → ((x : ℕ) → was ≡ Some x → x < 16) → (x : ℕ) → cond is at was ≡ Some x → x < 16
+chosen : (is : Bool) (at : Option ℕ) (was : Option ℕ) → ((x : ℕ) → at ≡ Some x → x < END_OF_PLACES) → ((x : ℕ) → was ≡ Some x → x < END_OF_PLACES) → (x : ℕ) → cond is at was ≡ Some x → x < END_OF_PLACES
 chosen true at was new old x e = new x e
 chosen false at was new old x e = old x e
 
-some_below : (place : ℕ) → place < 16 → (x : ℕ) → Some place ≡ Some x → x < 16
+some_below : (place : ℕ) → place < END_OF_PLACES → (x : ℕ) → Some place ≡ Some x → x < END_OF_PLACES
 some_below place below x e = grind arith
 
-none_below : (x : ℕ) → None ≡ Some x → x < 16
+none_below : (x : ℕ) → None ≡ Some x → x < END_OF_PLACES
 none_below x e = cc
 
-pub added_in_table : (old new : Directory) (name : List ℕ) (place : ℕ) → ChangesOnly old new name (Some place) → place < 16 → AreInTable old → AreInTable new
+pub added_in_table : (old new : Directory) (name : List ℕ) (place : ℕ) → ChangesOnly old new name (Some place) → place < END_OF_PLACES → AreInTable old → AreInTable new
 added_in_table old new name place changes below inside other x is =
     chosen (bytes_eq name other) (Some place) (place_of old other) (some_below place below) (inside other) x (sym (changes other) ∙ is)
 

@@ -6,7 +6,7 @@ use Rattle.frames.specs.declared.fault.FrameFault.{FrameFault}
 use Rattle.connections.specs.declared.crowd.Due.{Due}
 use Rattle.connections.specs.declared.crowd.Due.TheVariants as due
 
--- a request for encryption is denied, and behind it its startup is awaited; a request to cancel gets nothing; all else is refused
+-- a request for encryption is denied, and after it its startup is awaited; a request to cancel gets nothing; all else is refused
 abbrev pub due_for : Startup → ℕ → Due
 due_for Ssl count = due.No count
 due_for Gss count = due.No count

@@ -1,5 +1,5 @@
 pub mod Crowds
 pub mod Inboxes
 pub mod Names
-pub mod Reins
-pub mod Troubles
+pub mod StreamControl
+pub mod StreamErrors

@@ -9,7 +9,7 @@ use thiserror::Error;
 
 /// Why one connection was not taken.
 #[derive(Debug, Drop, Error)]
-pub enum Untaken {
+pub enum AcceptError {
     #[error("a connection could not be accepted: {0}")]
     Accept(io::Error),
     #[error("a connection was closed, since {0}")]
@@ -42,6 +42,8 @@ pub enum ConnectionEnd {
     Refused,
     #[error("closed: no startup came within authentication_timeout")]
     NoStartup,
+    #[error("closed: no random bytes were to be had for its password")]
+    NoNonce,
     #[error("closed: its client was silent for wal_sender_timeout")]
     Silent,
     #[error("closed: its client took nothing for wal_sender_timeout")]

@@ -4,6 +4,7 @@ ghost use Rattle.std.specs.Prelude.{◌≡◌, ℕ, ◌<◌, MatchResult, max};
 ghost use Rattle.slots.specs.Rule.{slot_step, with_step};
 ghost use Rattle.slots.specs.Seats.{Did, DidAt, Holds, IsRefusal};
 ghost use Rattle.slots.specs.Standings.{held_by};
+ghost use Rattle.slots.specs.declared.table.TheConstants.{END_OF_PLACES};
 ghost use Rattle.slots.specs.declared.step.SlotKind.TheVariants.{Claim, Raise, Read, Release};
 
 use slots::{Lease, SlotFault, SlotName, SlotSeat, SlotTable};
@@ -22,7 +23,7 @@ impl<L: SlotName> Hold<L> {
         mut seat: SlotSeat<L>,
         place: usize,
     ) -> Result<Self, (SlotSeat<L>, SlotFault)>
-        requires { place < 16 }
+        requires { place < END_OF_PLACES }
         ensures { MatchResult result
             (λ hold. (hold.lease.place ≡ place)
             × Did Claim place 1 (held_by seat.number) seat hold.seat)

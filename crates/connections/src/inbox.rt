@@ -65,7 +65,7 @@ impl Inbox {
         }
     }
 
-    /// The words that are to be said next, and the phase behind them.
+    /// The words that are to be said next, and the phase after them.
     pub fn say(&mut self, said: BytesMut, phase: Phase)
         ensures { self.new ≡ record self.old { said = said; phase = phase } }
     {

@@ -7,25 +7,25 @@ use std::sync::{Condvar, Mutex, Wait};
 /// Set by commits, notes and the stream's own connection. What it tells stays until its stream has seen it, so none is lost.
 #[derive(Drop)]
 pub struct Latch {
-    told: Mutex<Told>,
+    told: Mutex<LatchState>,
     set: Condvar,
 }
 
 /// What a latch tells.
 #[derive(Drop)]
-struct Told {
+struct LatchState {
     /// Where the log's last commit or note ends.
     end: u64,
     /// The connection has something to do.
     has_work: bool,
 }
 
-impl Told {
+impl LatchState {
     /// Nothing is told yet.
     fn new() -> Self
         ensures { result ≡ record { end = 0; has_work = false } }
     {
-        Told {
+        LatchState {
             end: 0,
             has_work: false,
         }
@@ -64,7 +64,7 @@ impl Told {
 impl Latch {
     pub fn new() -> Self {
         Latch {
-            told: Mutex::new(Told::new()),
+            told: Mutex::new(LatchState::new()),
             set: Condvar::new(),
         }
     }
@@ -85,7 +85,7 @@ impl Latch {
         self.set.notify_all();
     }
 
-    /// Waits until a commit or a note ends behind this position, or the connection has something to do.
+    /// Waits until a commit or a note ends after this position, or the connection has something to do.
     pub fn wait<R: Wait>(&self, rt: &R, position: u64) {
         let mut told = self
             .set

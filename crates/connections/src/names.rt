@@ -1,40 +1,57 @@
 //! The names of slots, and the seat by which slots are made and dropped.
 
-ghost use Rattle.std.specs.Prelude.{◌≡◌, ℕ, ◌<◌, None, Some, IfErr, IfSome, OnErr, OnOk};
-ghost use Rattle.slots.specs.Directories.{AreSame, ChangesOnly, place_of};
-ghost use Rattle.slots.specs.Seats.{Created, Did};
+ghost use Rattle.std.specs.Prelude.{◌≡◌, ℕ, ◌<◌, ◌≤◌, None, Some, IfErr, IfOk, IfSome, OnErr, OnOk};
+ghost use Rattle.slots.specs.Directories.{AreSame, ChangesOnly, count_of, place_of};
+ghost use Rattle.slots.specs.Seats.{Did, Made};
 ghost use Rattle.slots.specs.declared.step.SlotKind.TheVariants.{Retire};
+ghost use Rattle.slots.specs.declared.table.TheConstants.{END_OF_PLACES};
 ghost use Rattle.connections.specs.Names.{AreInTable, IsNoDrop, IsNoNewSlot};
 
+use crate::free_place::{FreePlace, first_places};
 use slots::{Directory, SlotFault, SlotName, SlotSeat, SlotTable};
-use std::alloc::Global;
+use std::alloc::{AllocError, Global};
 
-/// The slots by name, with a seat that makes and drops them.
+/// The slots by name, with a seat that makes and drops them: at most so many at once.
 #[derive(Drop)]
 pub struct Names<L: SlotName> {
     directory: Directory,
     seat: SlotSeat<L>,
+    /// One for each slot that may be made yet.
+    free: Vec<FreePlace>,
+    most: usize,
     ghost in_table: { AreInTable directory },
+    ghost few: { count_of directory ≤ most },
 }
 
 impl<L: SlotName> Names<L> {
-    pub fn new(alloc: Global, seat: SlotSeat<L>) -> Self {
-        Names {
-            directory: Directory::new(alloc),
-            seat,
+    /// No names, of at most so many.
+    pub fn new(alloc: Global, seat: SlotSeat<L>, most: usize) -> Result<Self, AllocError>
+        ensures { IfOk result (λ names. names.most ≡ most) }
+    {
+        match first_places(alloc, most) {
+            Ok(free) => Ok(Names {
+                directory: Directory::new(alloc),
+                seat,
+                free,
+                most,
+            }),
+            Err(refused) => {
+                drop(seat);
+                Err(refused)
+            }
         }
     }
 
-    /// The place of the slot of this name, one of 16.
+    /// The place of the slot of this name.
     pub fn place_of(&self, name: &str) -> Option<usize>
         ensures named { result ≡ place_of self.now.directory name.now }
-        ensures inside { IfSome result (λ place. place < 16) }
+        ensures inside { IfSome result (λ place. place < END_OF_PLACES) }
     {
         self.directory.find(name)
     }
 
-    /// Makes a slot of a new name, which is free, with this position confirmed. L3 where the name is there, then L4, then L5,
-    /// which has used up a place.
+    /// Makes a slot of a new name, which is free, with this position confirmed, or the one of its line if that is further. L3 where
+    /// the name is there, then L4 where there are as many slots as may be, then L5, which has used up a place.
     pub fn create(
         &mut self,
         slots: &SlotTable<L>,
@@ -42,19 +59,26 @@ impl<L: SlotName> Names<L> {
         position: u64,
     ) -> Result<(), SlotFault>
         ensures new { OnOk result (place_of self.old.directory name.now ≡ None) }
+        ensures room { OnOk result (count_of self.old.directory < self.old.most) }
         ensures ok { OnOk result
-            ((place : ℕ) × Created self.old.seat position place self.new.seat
+            ((place : ℕ) × Made self.old.seat position place self.new.seat
             × ChangesOnly self.old.directory self.new.directory name.now (Some place)) }
         ensures err { OnErr result (AreSame self.old.directory self.new.directory) }
         ensures fault { IfErr result (λ fault. IsNoNewSlot fault
             (place_of self.old.directory name.now) position self.old.seat self.new.seat) }
+        ensures most { self.new.most ≡ self.old.most }
     {
         if self.directory.find(name).is_some() {
             return Err(SlotFault::Exists);
         }
-        let place = slots.create(&mut self.seat, position)?;
-        if let Err(fault) = self.directory.add(name, place) {
-            let _ = slots.drop_slot(&mut self.seat, place);
+        if self.directory.count() >= self.most {
+            return Err(SlotFault::NoPlace);
+        }
+        let free = self.free.pop().ok_or(SlotFault::NoPlace)?;
+        slots.make(&mut self.seat, free.place, position)?;
+        if let Err(fault) = self.directory.add(name, free.place) {
+            let _ = slots.drop_slot(&mut self.seat, free.place);
+            self.go_on(free);
             return Err(fault);
         }
         Ok(())
@@ -69,10 +93,23 @@ impl<L: SlotName> Names<L> {
         ensures err { OnErr result (AreSame self.old.directory self.new.directory) }
         ensures fault { IfErr result (λ fault. IsNoDrop fault
             (place_of self.old.directory name.now) self.old.seat self.new.seat) }
+        ensures most { self.new.most ≡ self.old.most }
     {
         let place = self.place_of(name).ok_or(SlotFault::Missing)?;
         slots.drop_slot(&mut self.seat, place)?;
         self.directory.remove(name);
+        self.go_on(FreePlace { place });
         Ok(())
+    }
+
+    /// The line of a place that was dropped goes on to the next one. There is room for each that was taken.
+    fn go_on(&mut self, dropped: FreePlace)
+        ensures directory { self.new.directory ≡ self.old.directory }
+        ensures seat { self.new.seat ≡ self.old.seat }
+        ensures most { self.new.most ≡ self.old.most }
+    {
+        if let Some(next) = dropped.next() {
+            let _ = self.free.push(next);
+        }
     }
 }

@@ -3,8 +3,8 @@
 ghost use Rattle.std.specs.Prelude.{◌≡◌, true};
 ghost use Rattle.std.specs.Result.{is_err};
 
+use crate::connection_mailbox::ConnectionMailbox;
 use crate::fault::ConnectionEnd;
-use crate::line::Line;
 use std::io;
 use std::io::{ErrorKind, Write};
 use std::sync::Wait;
@@ -14,7 +14,7 @@ use std::sync::Wait;
 #[derive(Drop)]
 pub struct Outlet<'h, S, R: Wait, W: Write> {
     pub rt: &'h R,
-    pub line: &'h Line<S>,
+    pub mailbox: &'h ConnectionMailbox<S>,
     /// Where it goes. A write to it gives up once the client has taken nothing for as long as it may.
     pub to: W,
 }
@@ -36,9 +36,9 @@ impl<'h, S, R: Wait, W: Write> Outlet<'h, S, R, W> {
 
     /// Whether a client that takes nothing is waited for; else it is lost.
     fn waits_on(&self) -> bool {
-        let waits_on = self.line.is_heard(self.rt);
+        let waits_on = self.mailbox.is_heard(self.rt);
         if !waits_on {
-            self.line.end_early(self.rt, ConnectionEnd::Stalled);
+            self.mailbox.end_early(self.rt, ConnectionEnd::Stalled);
         }
         waits_on
     }

@@ -4,8 +4,9 @@ ghost use Rattle.std.specs.Prelude.{◌≡◌, Err, Ok};
 ghost use Rattle.std.specs.IoError.{error_kind};
 
 use crate::fault::ConnectionEnd;
+use authentication::GuardedConnection;
 use frames::TERMINATE;
-use server::{Connection, Phase};
+use server::Phase;
 use std::io;
 use std::io::{ErrorKind, Read};
 use std::net::TcpStream;
@@ -32,7 +33,7 @@ pub enum Came {
 pub struct Patience {
     /// By when the startup has to have come, on the clock, unless it has or may take for ever.
     pub startup_until: Option<Duration>,
-    /// For how long nothing may come behind it.
+    /// For how long nothing may come after it.
     silence: Option<Duration>,
     /// Since when nothing has come, on the clock.
     silent_since: Option<Duration>,
@@ -54,7 +55,7 @@ impl Patience {
         }
     }
 
-    /// The next read waits no longer than the startup may take yet, and behind it for as long as nothing may come. Nothing is left
+    /// The next read waits no longer than the startup may take yet, and after it for as long as nothing may come. Nothing is left
     /// of the startup's limit then.
     pub fn limit_wait<R: Clock>(
         &mut self,
@@ -120,7 +121,10 @@ pub fn left_until<R: Clock>(rt: &R, until: Duration) -> Result<Duration, Connect
 /// Reads more for the connection.
 // The buffer isn't on the stack while a command is answered.
 #[inline(never)]
-pub fn read_more(connection: &mut Connection, socket: &TcpStream) -> Result<Came, ConnectionEnd> {
+pub fn read_more(
+    connection: &mut GuardedConnection,
+    socket: &TcpStream,
+) -> Result<Came, ConnectionEnd> {
     let mut bytes = [0; MOST_READ];
     let mut from = socket;
     match from.read(&mut bytes) {

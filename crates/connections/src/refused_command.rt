@@ -1,7 +1,7 @@
 //! A command that was refused, for whoever runs the server.
 
 use pqformat::Text;
-use server::{DeskFault, Refusal};
+use server::{BackendFault, Refusal};
 use std::fmt;
 
 /// How many publications are told of, and how many bytes of each: PostgreSQL's names have no more.
@@ -18,9 +18,9 @@ pub enum RefusedCommand<'a> {
     /// A text that is no command, or none that is served, or a question.
     Text(&'a str, Refusal),
     /// A command, by its first word, of a slot.
-    OfSlot(&'static str, &'a str, DeskFault),
+    OfSlot(&'static str, &'a str, BackendFault),
     /// A START of a slot and of publications.
-    Start(&'a str, &'a [Text], DeskFault),
+    Start(&'a str, &'a [Text], BackendFault),
 }
 
 impl<'a> fmt::Display for RefusedCommand<'a> {
@@ -49,7 +49,7 @@ fn write_start<W: fmt::Write>(
     f: &mut fmt::Formatter<W>,
     slot: &str,
     names: &[Text],
-    fault: DeskFault,
+    fault: BackendFault,
 ) -> fmt::Result {
     write!(f, "START_REPLICATION of slot {slot}")?;
     write_names(f, names)?;

@@ -15,7 +15,7 @@ use Rattle.copyboth.specs.Server.{at_least, exactly, server_fault}
 use Rattle.copyboth.specs.Status.{client_fault}
 use Rattle.copyboth.specs.Reading.{FaultIs, int64_at, ask_at, nothing_left, xlogdata_at, keepalive_at, status_at, server_at, client_at}
 
--- ---- what is due, behind a number
+-- ---- what is due, after a number
 
 shorter : (n : ℕ) (bytes : List ℕ) → ltb (length bytes) 8 ≡ false → (b : Bool) → ltb (length (drop 8 bytes)) n ≡ b → ltb (length bytes) (8 + n) ≡ b
 shorter n bytes there true e = lt-ltb (length bytes) (8 + n) (omega (arith, ltb-true _ _ e, ltb-false _ _ there, length-drop 8 bytes))
@@ -63,7 +63,7 @@ signed_fault {X} bytes k fault after = by_test (ltb (length bytes) 8)
     by_test true = refl
     by_test false = after (cast_signed w64 (from_be_bytes w64 (take 8 bytes)))
 
--- the last byte, and nothing behind it
+-- the last byte, and nothing after it
 ask_fault : {X : Type 0} (bytes : List ℕ) (make : Bool → X) → FaultIs (ask_at bytes >>= λ ask. nothing_left ask.1 >>= λ done. Ok (make ask.0)) (exactly 1 bytes)
 ask_fault [] make = refl
 ask_fault (b ∷ []) make = refl

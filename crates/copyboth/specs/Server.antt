@@ -37,7 +37,7 @@ at_least n rest = if nat_lt (length rest) n then Some Short else None
 abbrev pub exactly : ℕ → List ℕ → Option CopyFault
 exactly n rest = if nat_lt (length rest) n then Some Short else if nat_lt n (length rest) then Some Trailing else None
 
--- the fault that stands in a body, if any, by what is due behind its kind byte
+-- the fault that stands in a body, if any, by what is due after its kind byte
 abbrev pub server_fault : List ℕ → Option CopyFault
 server_fault [] = Some Short
 server_fault (b ∷ rest) = if b == XLOGDATA then at_least 24 rest else if b == KEEPALIVE then exactly 17 rest else Some UnknownKind

@@ -28,7 +28,7 @@ pub record SpellsStatus (bytes : List ℕ) (s : Status) : Type 0 where
   pub asks : s.ask ≡ (ask == ASKS)
   pub text : bytes ≡ status_with s ask
 
--- the fault that stands in a body, if any: behind the kind byte 33 bytes are due
+-- the fault that stands in a body, if any: after the kind byte 33 bytes are due
 abbrev pub client_fault : List ℕ → Option CopyFault
 client_fault [] = Some Short
 client_fault (b ∷ rest) = if b == STATUS then exactly 33 rest else Some UnknownKind

@@ -31,7 +31,7 @@ pub(crate) fn ask_of(cursor: &mut Cursor<'_>) -> Result<bool, CopyFault>
     Ok(byte == ASKS)
 }
 
-/// Nothing may stand behind a body.
+/// Nothing may stand after a body.
 pub(crate) fn end_of(cursor: &Cursor<'_>) -> Result<(), CopyFault>
     ensures { result ≡ nothing_left cursor.now }
 {

@@ -66,7 +66,7 @@ pub(crate) fn byte_of(ask: bool) -> u8
     if ask { ASKS } else { SILENT }
 }
 
-/// What stands behind the kind byte, up to the end.
+/// What stands after the kind byte, up to the end.
 pub(crate) fn keepalive_of(cursor: &mut Cursor<'_>) -> Result<Keepalive, CopyFault>
     ensures { result ≡ keepalive_at cursor.old }
 {

@@ -1,5 +1,11 @@
 //! The bodies of the streaming replication protocol that stand inside CopyData in the copy-both state: their writers and
 //! readers.
+//!
+//! A file for each body: `xlogdata.rt`, `keepalive.rt` and `status.rt`. `server_body.rt` tells the two of the server apart,
+//! `fields.rt` has the fields that they share.
+//!
+//! Above, one contract of each is used: what `write_xlogdata`, `write_keepalive` and `write_status` add is what `read_server`
+//! and `read_client` find, and nothing else is found.
 #![tactic(auto, using(pqformat::proofs::Putting::in_place))]
 
 mod fault;

@@ -56,7 +56,7 @@ fn put_status(message: &Status, out: &mut BytesMut) -> Result<(), AllocError>
 
 /// The status that the bytes of a client spell, all of them.
 ///
-/// B1 where the bytes end inside a field, B2 where the first byte is another, B3 at bytes behind a status.
+/// B1 where the bytes end inside a field, B2 where the first byte is another, B3 at bytes after a status.
 pub fn read_client(bytes: &[u8]) -> Result<Status, CopyFault>
     // What is read is spelled so,
     ensures found { IfOk result (λ s. SpellsStatus bytes.now s) }
@@ -78,7 +78,7 @@ fn client_of(bytes: &[u8]) -> Result<Status, CopyFault>
     }
 }
 
-/// What stands behind the kind byte, up to the end.
+/// What stands after the kind byte, up to the end.
 fn status_of(cursor: &mut Cursor<'_>) -> Result<Status, CopyFault>
     ensures { result ≡ status_at cursor.old }
 {

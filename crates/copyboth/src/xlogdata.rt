@@ -80,7 +80,7 @@ fn put_xlogdata(piece: &XLogData<'_>, out: &mut BytesMut) -> Result<(), AllocErr
     put_bytes(out, piece.payload)
 }
 
-/// What stands behind the kind byte.
+/// What stands after the kind byte.
 pub(crate) fn xlogdata_of<'a>(cursor: &mut Cursor<'a>) -> Result<XLogData<'a>, CopyFault>
     ensures { result ≡ xlogdata_at cursor.old }
 {

@@ -66,7 +66,7 @@ fn fill(arena: &mut Arena, entry: &[u8], count: usize)
     arena.give_back(strand);
 }
 
-/// Copies the bytes so many times, one behind the other.
+/// Copies the bytes so many times, one after the other.
 fn copy_often(alloc: Global, entry: &[u8], count: usize, turns: u32) -> Result<()> {
     let mut bytes = Vec::with_capacity(alloc, count.saturating_mul(entry.len()))?;
     for _ in 0..turns {

@@ -3,10 +3,11 @@
 //! (`apart`).
 
 ghost use Rattle.std.specs.Prelude.{◌≡◌, ◌≤◌};
+ghost use Rattle.slots.specs.declared.table.TheConstants.{MOST_SEATS};
 
 use crate::number;
 use anyhow::{Result, bail};
-use slots::{OpenedSlots, PLACES, SlotFault, SlotName, SlotSeat, SlotTable};
+use slots::{MOST_SEATS, OpenedSlots, PLACES, SlotFault, SlotName, SlotSeat, SlotTable};
 use std::alloc::{AllocError, Global};
 use std::marker::Brand;
 use std::sync::atomic::{AtomicU64, Ordering};
@@ -32,6 +33,9 @@ pub fn work_on_slots<R: Threads + Sync>(rt: &R, alloc: Global, words: &[String])
 fn on_slots<R: Threads + Sync>(rt: &R, alloc: Global, threads: usize, turns: u32) -> Result<()> {
     if threads == 0 {
         bail!("THREADS is at least 1");
+    }
+    if threads > MOST_SEATS {
+        bail!("THREADS is at most 2048");
     }
     let opened = OpenedSlots::new(alloc)?;
     over_table::<Brand, R>(rt, alloc, opened, threads, turns)
@@ -69,6 +73,7 @@ fn over_table<L: SlotName + Send + Sync, R: Threads + Sync>(
 ) -> Result<()>
     requires name { opened.first.table_id ≡ L.table }
     requires threads { 1 ≤ threads }
+    requires few { threads ≤ MOST_SEATS }
 {
     let (table, seats) = opened.open::<L>(threads)?;
     side_by_side(rt, alloc, &table, seats, turns)
@@ -111,7 +116,7 @@ fn user_at<L: SlotName>(table: &SlotTable<L>, mut seat: SlotSeat<L>) -> Result<U
     Ok(User { seat, place })
 }
 
-/// Each thread's word is so many words behind the one before it.
+/// Each thread's word is so many words after the one before it.
 fn on_words<R: Threads + Sync>(
     rt: &R,
     alloc: Global,

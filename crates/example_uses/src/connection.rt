@@ -5,7 +5,7 @@
 
 ghost use Rattle.std.specs.Prelude.{◌≤◌};
 
-use crate::desk::EmptyDesk;
+use crate::backend::EmptyBackend;
 use crate::{in_pieces, print_bytes};
 use anyhow::{Context, Result};
 use bytes::BytesMut;
@@ -52,7 +52,7 @@ fn hold_often(
     Ok(())
 }
 
-/// The startup of a session, and a query with blanks behind its command.
+/// The startup of a session, and a query with blanks after its command.
 fn sent_by_client(alloc: Global, length: usize) -> Result<Vec<u8>> {
     let mut sent = Vec::from_slice(alloc, STARTUP)?;
     put_query(&mut sent, length.max(COMMAND.len()))?;
@@ -74,10 +74,10 @@ fn put_query(sent: &mut Vec<u8>, length: usize) -> Result<()> {
 fn hold(alloc: Global, sent: &[u8], piece: usize, said: &mut BytesMut) -> Result<()>
     requires { 1 ≤ piece }
 {
-    let mut desk = EmptyDesk { end: END };
+    let mut backend = EmptyBackend { end: END };
     let mut connection = Connection::new(alloc, 1);
     for bytes in sent.chunks(piece) {
-        connection.take(bytes, &mut desk, said)?;
+        connection.take(bytes, &mut backend, said)?;
     }
     Ok(())
 }

@@ -5,10 +5,10 @@
 
 ghost use Rattle.std.specs.Prelude.{◌≤◌, IfOk};
 
+mod backend;
 mod chunks;
 mod claims;
 mod connection;
-mod desk;
 mod filters;
 mod items;
 mod own_log;

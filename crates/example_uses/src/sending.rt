@@ -66,7 +66,7 @@ pub fn feed<L: LogName>(
     Ok(sender.feed(records.as_slice(), 9)?)
 }
 
-/// One transaction. What it did behind its savepoint is rolled back, and no subscriber gets it.
+/// One transaction. What it did after its savepoint is rolled back, and no subscriber gets it.
 fn run_session<L: LogName, R: Wait>(
     rt: &R,
     alloc: Global,

@@ -40,7 +40,7 @@ connecting old next t is gains =
     let these = subst (λ (a : ApplierState). Gains a.subscriber t) is gains in
     record { fresh = these.fresh; applied = these.applied; once = these.once }
 
--- where the intake is as it was
+-- where the receiver is as it was
 passing : (old next : ApplierState) (t : Subscriber) → next ≡ old → Gains next.subscriber t → Gains old.subscriber t
 passing old next t is gains = subst (λ (a : ApplierState). Gains a.subscriber t) is gains
 
@@ -73,7 +73,7 @@ each_once start written kept sent deeds now run =
 forgetting : (printed : List Published) (a : ApplierState) → with_printed (printed ++ a.subscriber.applied) (applier_without_applied a) ≡ with_printed printed a
 forgetting printed a = ap (λ (l : List Published). record a { subscriber = record a.subscriber { applied = l } }) (append-nil (printed ++ a.subscriber.applied))
 
--- bytes that are taken stand behind those before them
+-- bytes that are taken stand after those before them
 hearing : (base : Subscriber) (text bytes : List ℕ) (old new : ApplierState) (u : Unit {0}) → HasTaken base old text → TakesFrom old.fault old new bytes (Ok u) → HasTaken base new (text ++ bytes)
 hearing base text bytes old new u had takes =
     let taken = subst (λ (fault : Option ClientFault). TakesFrom fault old new bytes (Ok u)) had.sound takes in

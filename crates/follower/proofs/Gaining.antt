@@ -22,7 +22,7 @@ use Rattle.client.specs.Subscriber.{Subscriber, HalfTransaction, judgement_of_ch
 use Rattle.client.specs.Taking.{ApplierState, Reached, Takes, TakesFrom}
 use Rattle.follower.specs.Once.{EachOnce, Gains}
 
--- ---- One stretch behind the other.
+-- ---- One stretch after the other.
 
 once_from : (from mid to : ℕ) (ts : List Published) → from ≤ mid → EachOnce mid ts to → EachOnce from ts to
 once_from from mid to [] le once = omega (arith, le, once)

@@ -9,7 +9,7 @@ use Rattle.std.proofs.KnownBytes.{Appends-nil, Appends-trans}
 pub more_given : (a b c : Option (List ℕ)) (bytes : List ℕ) (taken n : ℕ) → Appends a b (take taken bytes) → Appends b c (take n (drop taken bytes)) → Appends a c (take (taken + n) bytes)
 more_given a b c bytes taken n p q = subst (Appends a c) (sym (take-add taken n bytes)) (Appends-trans a b c _ _ p q)
 
--- what keeps what is known behind what grew it
+-- what keeps what is known after what grew it
 pub as_given : (a b c : Option (List ℕ)) (bytes : List ℕ) → Appends a b bytes → Keeps b c → Appends a c bytes
 as_given None b c bytes p q = tt
 as_given (Some x) None c bytes p q = absurd p

@@ -1,4 +1,4 @@
--- One deed behind the other.
+-- One deed after the other.
 use Rattle.std.specs.Prelude.{OnOk, OnErr}
 use Rattle.std.proofs.Common.{◌≡◌, ◌⊎◌, inl, inr, ℕ, ℤ, Bool, List, [], ◌∷◌, ◌++◌, Option, Result, Ok, Err, refl, sym, ap, subst, ◌∙◌, take}
 use Rattle.std.specs.List.{AllByRecursion}
@@ -33,18 +33,18 @@ goes_by a b deed does is = record { deeds = deed ∷ []; runs = (b, does, refl);
 abbrev stands : List ℕ → Option (List ℕ) → Option (List ℕ) → Option (List ℕ) → ApplierState → Bool → Standing
 stands unread written kept sent a is_broken = record { applier = a; unread = unread; written = written; kept = kept; sent = sent; is_broken = is_broken }
 
--- one whose intake and output are the same stands where the other does
-same_place : (unread : List ℕ) (written kept sent : Option (List ℕ)) (old new : Delivery) → new.intake ≡ old.intake → new.is_broken ≡ old.is_broken → standing new unread written kept sent ≡ standing old unread written kept sent
+-- one whose receiver and output are the same stands where the other does
+same_place : (unread : List ℕ) (written kept sent : Option (List ℕ)) (old new : Delivery) → new.receiver ≡ old.receiver → new.is_broken ≡ old.is_broken → standing new unread written kept sent ≡ standing old unread written kept sent
 same_place unread written kept sent old new same still =
-    ap (λ (a : ApplierState). stands unread written kept sent a new.is_broken) (ap (λ i. i.applier) same) ∙ ap (stands unread written kept sent old.intake.applier) still
+    ap (λ (a : ApplierState). stands unread written kept sent a new.is_broken) (ap (λ i. i.applier) same) ∙ ap (stands unread written kept sent old.receiver.applier) still
 
-pub goes_same : (unread : List ℕ) (written kept sent : Option (List ℕ)) (old new : Delivery) → new.intake ≡ old.intake → new.is_broken ≡ old.is_broken → Goes (standing old unread written kept sent) (standing new unread written kept sent)
+pub goes_same : (unread : List ℕ) (written kept sent : Option (List ℕ)) (old new : Delivery) → new.receiver ≡ old.receiver → new.is_broken ≡ old.is_broken → Goes (standing old unread written kept sent) (standing new unread written kept sent)
 goes_same unread written kept sent old new same still =
     subst (λ (s : Standing). Goes (standing old unread written kept sent) s) (sym (same_place unread written kept sent old new same still)) (goes_nowhere (standing old unread written kept sent))
 
 -- lines were handed over, and what waited is taken for printed
-pub printing : (lines unread : List ℕ) (old ready handed : Delivery) (a : ApplierState) (before after before_kept kept sent : Option (List ℕ)) → ready.intake ≡ old.intake → ready.is_broken ≡ old.is_broken → handed.intake ≡ ready.intake
-    → a ≡ applier_without_applied handed.intake.applier → HandsOver lines ready.is_broken handed.is_broken before after kept
+pub printing : (lines unread : List ℕ) (old ready handed : Delivery) (a : ApplierState) (before after before_kept kept sent : Option (List ℕ)) → ready.receiver ≡ old.receiver → ready.is_broken ≡ old.is_broken → handed.receiver ≡ ready.receiver
+    → a ≡ applier_without_applied handed.receiver.applier → HandsOver lines ready.is_broken handed.is_broken before after kept
     → Goes (standing old unread before before_kept sent) (stands unread after kept sent a handed.is_broken)
 printing lines unread old ready handed a before after before_kept kept sent same still handing without hands =
     goes_by (standing old unread before before_kept sent) (stands unread after kept sent a handed.is_broken) (Prints lines)
@@ -60,7 +60,7 @@ printing lines unread old ready handed a before after before_kept kept sent same
 
 -- they were not, and nothing is taken for printed
 pub failing : {V : Type 0} → (contents keeping : V → Option (List ℕ)) (lines unread : List ℕ) (old ready handed : Delivery) (before after : V) (sent : Option (List ℕ))
-    → ready.intake ≡ old.intake → ready.is_broken ≡ old.is_broken → handed.intake ≡ ready.intake
+    → ready.receiver ≡ old.receiver → ready.is_broken ≡ old.is_broken → handed.receiver ≡ ready.receiver
     → ((handed ≡ ready) × (after ≡ before)) ⊎ FailsToHand lines ready.is_broken handed.is_broken (contents before) (contents after)
     → Goes (standing old unread (contents before) (keeping before) sent) (standing handed unread (contents after) (keeping after) sent)
 failing {V} contents keeping lines unread old ready handed before after sent same still handing (inl nothing) =
@@ -79,14 +79,14 @@ failing {V} contents keeping lines unread old ready handed before after sent sam
     }) tt
 
 -- the last lines, where nothing waits
-summed : (lines unread : List ℕ) (old handed : Delivery) (before after before_kept kept sent : Option (List ℕ)) → old.intake.applier.subscriber.applied ≡ [] → handed.intake ≡ old.intake
+summed : (lines unread : List ℕ) (old handed : Delivery) (before after before_kept kept sent : Option (List ℕ)) → old.receiver.applier.subscriber.applied ≡ [] → handed.receiver ≡ old.receiver
     → HandsOver lines old.is_broken handed.is_broken before after kept → Goes (standing old unread before before_kept sent) (standing handed unread after kept sent)
 summed lines unread old handed before after before_kept kept sent none same hands =
     goes_by (standing old unread before before_kept sent) (standing handed unread after kept sent) (Sums lines) (
       none,
       record {
         sound = hands.sound;
-        applier = ap (λ i. i.applier) same ∙ ap (λ l. record old.intake.applier { subscriber = record old.intake.applier.subscriber { applied = l } }) none;
+        applier = ap (λ i. i.applier) same ∙ ap (λ l. record old.receiver.applier { subscriber = record old.receiver.applier.subscriber { applied = l } }) none;
         unread = refl;
         written = hands.written;
         kept = hands.kept;
@@ -96,7 +96,7 @@ summed lines unread old handed before after before_kept kept sent none same hand
     ) tt
 
 pub summing : {V T E : Type 0} → (contents keeping : V → Option (List ℕ)) (lines unread : List ℕ) (old handed : Delivery) (before after : V) (sent : Option (List ℕ)) (result : Result T E)
-    → old.intake.applier.subscriber.applied ≡ [] → handed.intake ≡ old.intake
+    → old.receiver.applier.subscriber.applied ≡ [] → handed.receiver ≡ old.receiver
     → OnOk result (HandsOver lines old.is_broken handed.is_broken (contents before) (contents after) (keeping after))
     → OnErr result (((handed ≡ old) × (after ≡ before)) ⊎ FailsToHand lines old.is_broken handed.is_broken (contents before) (contents after))
     → Goes (standing old unread (contents before) (keeping before) sent) (standing handed unread (contents after) (keeping after) sent)
@@ -105,13 +105,13 @@ summing contents keeping lines unread old handed before after sent (Err e) none 
 
 -- ---- Sending.
 
-pub telling : (clock : ℤ) (ask : Bool) (unread : List ℕ) (d : Delivery) (written kept before after : Option (List ℕ)) → d.intake.applier.subscriber.applied ≡ [] → kept ≡ written
-    → ((count : ℕ) × Appends before after (take count (status_at d.intake.applier.subscriber.position clock ask)))
+pub telling : (clock : ℤ) (ask : Bool) (unread : List ℕ) (d : Delivery) (written kept before after : Option (List ℕ)) → d.receiver.applier.subscriber.applied ≡ [] → kept ≡ written
+    → ((count : ℕ) × Appends before after (take count (status_at d.receiver.applier.subscriber.position clock ask)))
     → Goes (standing d unread written kept before) (standing d unread written kept after)
 telling clock ask unread d written kept before after none safe part =
     goes_by (standing d unread written kept before) (standing d unread written kept after) (Tells clock ask part.0) (record { printed = none; kept = safe; sent = part.1; same = refl }) tt
 
-pub ending : (bytes unread : List ℕ) (d : Delivery) (written kept before after : Option (List ℕ)) → d.intake.applier.subscriber.applied ≡ [] → kept ≡ written → bytes ≡ frame COPY_DONE []
+pub ending : (bytes unread : List ℕ) (d : Delivery) (written kept before after : Option (List ℕ)) → d.receiver.applier.subscriber.applied ≡ [] → kept ≡ written → bytes ≡ frame COPY_DONE []
     → ((count : ℕ) × Appends before after (take count bytes))
     → Goes (standing d unread written kept before) (standing d unread written kept after)
 ending bytes unread d written kept before after none safe is part =
@@ -120,7 +120,7 @@ ending bytes unread d written kept before after none safe is part =
 
 -- ---- Taking.
 
-pub receiving : (bytes rest : List ℕ) (old : Delivery) (a : ApplierState) (written kept sent : Option (List ℕ)) (result : Result (Unit {0}) ClientFault) → Takes old.intake.applier a bytes result
+pub receiving : (bytes rest : List ℕ) (old : Delivery) (a : ApplierState) (written kept sent : Option (List ℕ)) (result : Result (Unit {0}) ClientFault) → Takes old.receiver.applier a bytes result
     → Goes (standing old (bytes ++ rest) written kept sent) (stands rest written kept sent a old.is_broken)
 receiving bytes rest old a written kept sent result takes =
     goes_by (standing old (bytes ++ rest) written kept sent) (stands rest written kept sent a old.is_broken) (Receives bytes result) (takes, refl, refl) tt
@@ -129,7 +129,7 @@ pub waiting : (unread more now : List ℕ) (d : Delivery) (written kept before a
     → Goes (standing d unread written kept before) (standing d now written kept after)
 waiting unread more now d written kept before after is keeps =
     goes_by (standing d unread written kept before) (standing d now written kept after) Waits
-    (more, keeps, ap (λ (l : List ℕ). stands l written kept after d.intake.applier d.is_broken) is) tt
+    (more, keeps, ap (λ (l : List ℕ). stands l written kept after d.receiver.applier d.is_broken) is) tt
 
 -- ---- Over a connection.
 

@@ -1,8 +1,8 @@
--- What a run finds in an output: whole transactions and notes, and behind them maybe the beginning of one more.
+-- What a run finds in an output: whole transactions and notes, and after them maybe the beginning of one more.
 use Rattle.std.specs.Prelude.{◌≡◌, ℕ, ◌+◌, ◌<◌, Bool, true, false, List, [], ◌∷◌, ◌++◌, Some, None}
 use Rattle.std.specs.List.{AllByRecursion}
 use Rattle.pgoutput.specs.declared.published.Published.{Published}
-use Rattle.follower.specs.declared.kept.Kept.{Kept}
+use Rattle.follower.specs.declared.resume_point.ResumePoint.{ResumePoint}
 use Rattle.follower.specs.declared.line.Line.{Line}
 use Rattle.follower.specs.Lives.{place_behind}
 
@@ -25,7 +25,7 @@ pub record TellsTransaction (place : ℕ) (lines : List Line) : Type 0 where
   pub ends : last.end ≡ Some place
   pub is_none : last.is_note ≡ false
 
--- the line of a note behind which a run goes on there
+-- the line of a note after which a run goes on there
 pub record TellsNote (place : ℕ) (lines : List Line) : Type 0 where
   pub line : Line
   pub are : lines ≡ line ∷ []
@@ -50,11 +50,11 @@ abbrev pub bytes_in : List Line → ℕ
 bytes_in [] = 0
 bytes_in (line ∷ lines) = line.length + bytes_in lines
 
-abbrev pub nothing_kept : Kept
+abbrev pub nothing_kept : ResumePoint
 nothing_kept = record { length = 0; transactions = 0; changes = 0; position = 0; rest = 0; rest_changes = 0; is_foreign = false }
 
--- A run goes on there, behind so many bytes. So many others are cut off.
-pub record Finds (place kept rest : ℕ) (k : Kept) : Type 0 where
+-- A run goes on there, after so many bytes. So many others are cut off.
+pub record Finds (place kept rest : ℕ) (k : ResumePoint) : Type 0 where
   pub position : k.position ≡ place
   pub length : k.length ≡ kept
   pub behind : k.rest ≡ rest

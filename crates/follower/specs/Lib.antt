@@ -1,10 +1,11 @@
 pub mod Found
-pub mod Kept
+pub mod ResumePoint
 pub mod Lives
 pub mod Once
 pub mod Promise
+pub mod Requests
 pub mod Retrying
 pub mod Standing
 pub mod TextLines
-pub mod Told
+pub mod LineKind
 pub mod Lines

@@ -9,12 +9,12 @@ use Rattle.follower.specs.Promise.{begun_at, printed_in}
 abbrev pub place_behind : Published → ℕ
 place_behind t = if t.is_note then t.start + 1 else t.end
 
--- where one goes on behind all of them
+-- where one goes on after all of them
 abbrev pub place_behind_all : ℕ → List Published → ℕ
 place_behind_all start [] = start
 place_behind_all start (t ∷ ts) = place_behind_all (place_behind t) ts
 
--- From a position on, each starts where a run would go on behind the one before it, or later. So none stands there twice.
+-- From a position on, each starts where a run would go on after the one before it, or later. So none stands there twice.
 abbrev pub EachBehind : ℕ → List Published → Type 0
 EachBehind from [] = Unit {0}
 EachBehind from (t ∷ ts) = (from ≤ t.start) × (t.start < place_behind t) × EachBehind (place_behind t) ts
@@ -38,7 +38,7 @@ pub record Life : Type 0 where
 abbrev pub beginning : Life → Standing
 beginning life = begun_at life.from life.written life.kept life.sent
 
--- It began behind all that the output held. Its server is asked for one thing: that the records of notes end past their starts.
+-- It began after all that the output held. Its server is asked for one thing: that the records of notes end past their starts.
 pub record Lived (start : ℕ) (printed : List Published) (life : Life) : Type 0 where
   pub behind : place_behind_all start printed ≤ life.from
   pub run : Runs (beginning life) life.deeds life.now

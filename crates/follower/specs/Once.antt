@@ -5,7 +5,7 @@ use Rattle.client.specs.Law.{IsForward}
 use Rattle.client.specs.Subscriber.{Subscriber, subscriber_at_rest}
 use Rattle.client.specs.Taking.{ApplierState}
 
--- Between two positions these transactions come one behind the other: each commit record starts where the one before it ends, or
+-- Between two positions these transactions come one after the other: each commit record starts where the one before it ends, or
 -- later, and ends past where it starts. So none comes twice.
 abbrev pub EachOnce : ℕ → List Published → ℕ → Type 0
 EachOnce from [] to = from ≤ to

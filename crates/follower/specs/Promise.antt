@@ -1,4 +1,4 @@
--- All that is done with an intake over its connections, one deed after the other.
+-- All that is done with a receiver over its connections, one deed after the other.
 use Rattle.std.specs.Prelude.{ℕ, false, List, [], ◌∷◌, ◌++◌, None, Option, Ok, Err}
 use Rattle.pgoutput.specs.declared.published.Published.{Published}
 use Rattle.client.specs.Subscriber.{subscriber_at_rest}

@@ -11,7 +11,7 @@ use Rattle.client.specs.Taking.{ApplierState, Takes}
 use Rattle.follower.specs.Once.{applier_at_connection, applier_without_applied}
 use Rattle.follower.specs.declared.delivery.Delivery.{Delivery}
 
--- what it has taken, and what came behind that; what came to its output, and what of that stands there for good; what its server
+-- what it has taken, and what came after that; what came to its output, and what of that stands there for good; what its server
 -- was sent; and whether the output has failed
 pub record Standing : Type 0 where
   pub applier : ApplierState
@@ -22,7 +22,7 @@ pub record Standing : Type 0 where
   pub is_broken : Bool
 
 -- A server is asked, and a connection begins. More comes. Of what came these bytes are taken, of which this is answered. What is
--- there is printed by these lines; behind all of it these are printed; the output fails at these lines. Of a status under a clock,
+-- there is printed by these lines; after all of it these are printed; the output fails at these lines. Of a status under a clock,
 -- which may ask for a keepalive, so many bytes are sent; likewise of the end of the stream.
 pub data Deed : Type 0 where
   Asks : Deed
@@ -49,7 +49,7 @@ pub record DoesPrint (lines : List ℕ) (old new : Standing) : Type 0 where
   pub sent : new.sent ≡ old.sent
   pub still : new.is_broken ≡ false
 
--- A beginning of them came, and nothing is printed behind it.
+-- A beginning of them came, and nothing is printed after it.
 pub record DoesBreak (lines : List ℕ) (old new : Standing) : Type 0 where
   pub sound : old.is_broken ≡ false
   pub applier : new.applier ≡ old.applier
@@ -116,8 +116,8 @@ pub record FailsToHand (lines : List ℕ) (was_broken is_broken : Bool) (old new
   pub written : Appends old new (take count lines)
 
 abbrev pub standing : Delivery → (unread : List ℕ) → (written kept sent : Option (List ℕ)) → Standing
-standing d unread written kept sent = record { applier = d.intake.applier; unread = unread; written = written; kept = kept; sent = sent; is_broken = d.is_broken }
+standing d unread written kept sent = record { applier = d.receiver.applier; unread = unread; written = written; kept = kept; sent = sent; is_broken = d.is_broken }
 
 -- as it is when a connection begins
 abbrev pub connected : Delivery → Delivery
-connected d = record d { intake = record d.intake { applier = applier_at_connection d.intake.applier } }
+connected d = record d { receiver = record d.receiver { applier = applier_at_connection d.receiver.applier } }

@@ -3,6 +3,7 @@
 ghost use Rattle.frames.specs.Frame.{FitsLength};
 ghost use Rattle.frames.specs.Front.{front_body};
 
+use crate::authenticating::authenticate;
 use crate::fault::{FollowFault, told};
 use crate::incoming::Incoming;
 use crate::options::Options;
@@ -13,6 +14,7 @@ use pqformat::Text;
 use replcmd::write_position;
 use std::alloc::{AllocError, Global};
 use std::io::{Read, Write};
+use std::random::RandomSource;
 use std::sync::Wait;
 
 /// The startup of a session for logical replication (PostgreSQL 15, 55.2.1 and 55.4): user `subcat`, replication `database`.
@@ -32,27 +34,30 @@ enum End {
 }
 
 /// Asks for the stream, up to its first frame.
-pub(crate) fn ask_for_stream<R: Wait, S: Read + Write>(
+pub(crate) fn ask_for_stream<R: Wait + RandomSource, S: Read + Write>(
     rt: &R,
     alloc: Global,
     incoming: &mut Incoming,
     socket: &mut S,
     options: &Options<'_>,
 ) -> Result<(), FollowFault> {
-    greet(rt, incoming, socket)?;
+    greet(rt, alloc, incoming, socket, options)?;
     if options.create {
         create(rt, alloc, incoming, socket, options.slot)?;
     }
     start_stream(rt, alloc, incoming, socket, options, options.position)
 }
 
-/// Says the startup.
-pub(crate) fn greet<R: Wait, S: Read + Write>(
+/// Says the startup, and proves the password where the server asks for one.
+pub(crate) fn greet<R: Wait + RandomSource, S: Read + Write>(
     rt: &R,
+    alloc: Global,
     incoming: &mut Incoming,
     socket: &mut S,
+    options: &Options<'_>,
 ) -> Result<(), FollowFault> {
     socket.write_all(STARTUP).map_err(FollowFault::Connection)?;
+    authenticate(rt, alloc, incoming, socket, options.password)?;
     wait_for(rt, incoming, socket, End::ReadyForQuery)
 }
 

@@ -7,10 +7,10 @@ ghost use Rattle.follower.specs.Standing.{FailsToHand, Goes, HandsOver, standing
 use crate::fault::FollowFault;
 use crate::form::Form;
 use crate::giving::give;
-use crate::intake::Intake;
-use crate::kept::Kept;
 use crate::output::Output;
 use crate::printer::Printer;
+use crate::resume_point::ResumePoint;
+use crate::stream_receiver::StreamReceiver;
 use crate::streamed::{body_in, carried, message_in};
 use bytes::BytesMut;
 use client::ClientFault;
@@ -25,9 +25,9 @@ use std::io::Write;
 #[derive(Drop)]
 pub(crate) struct Delivery {
     alloc: Global,
-    pub(crate) intake: Intake,
+    pub(crate) receiver: StreamReceiver,
     printer: Printer,
-    /// Whether the output has failed. Then nobody knows how much of the lines came to it, and nothing is printed behind them: another
+    /// Whether the output has failed. Then nobody knows how much of the lines came to it, and nothing is printed after them: another
     /// run goes on from what it holds.
     is_broken: bool,
     /// What the clock said last, in microseconds since 2000-01-01.
@@ -35,11 +35,17 @@ pub(crate) struct Delivery {
 }
 
 impl Delivery {
-    /// Behind a position, for so many transactions, into an output that holds so much already.
-    pub(crate) fn new(alloc: Global, form: Form, kept: &Kept, position: u64, count: u32) -> Self {
+    /// After a position, for so many transactions, into an output that holds so much already.
+    pub(crate) fn new(
+        alloc: Global,
+        form: Form,
+        kept: &ResumePoint,
+        position: u64,
+        count: u32,
+    ) -> Self {
         Delivery {
             alloc,
-            intake: Intake::new(alloc, position, count),
+            receiver: StreamReceiver::new(alloc, position, count),
             printer: Printer::new(alloc, form, kept),
             is_broken: false,
             clock: 0,
@@ -74,11 +80,11 @@ impl Delivery {
             (standing self.new rest (W.contents output.new) (W.kept output.new)
             (S.contents socket.new)) }
     {
-        let taken = self.intake.take(bytes);
+        let taken = self.receiver.take(bytes);
         self.answer(frame, taken, socket, output)
     }
 
-    /// Does what a frame asks for that the intake took so.
+    /// Does what a frame asks for that the receiver took so.
     #[tactic(auto, using(crate::proofs::Going::goes_nowhere))]
     fn answer<S: Write, W: Output>(
         &mut self,
@@ -161,15 +167,15 @@ impl Delivery {
             (S.contents socket.old))
             (standing self.new unread (W.contents output.new) (W.kept output.new)
             (S.contents socket.new)) }
-        ensures settled { OnOk result (self.new.intake.applier.subscriber.applied ≡ []) }
+        ensures settled { OnOk result (self.new.receiver.applier.subscriber.applied ≡ []) }
     {
-        if self.intake.unprinted().is_empty() {
+        if self.receiver.unprinted().is_empty() {
             return Ok(());
         }
         self.acknowledge(false, socket, output)
     }
 
-    /// Tells the server the position, behind what was printed, and may ask for a keepalive.
+    /// Tells the server the position, after what was printed, and may ask for a keepalive.
     pub(crate) fn acknowledge<S: Write, W: Output>(
         &mut self,
         ask: bool,
@@ -181,9 +187,9 @@ impl Delivery {
             (S.contents socket.old))
             (standing self.new unread (W.contents output.new) (W.kept output.new)
             (S.contents socket.new)) }
-        ensures settled { OnOk result (self.new.intake.applier.subscriber.applied ≡ []) }
+        ensures settled { OnOk result (self.new.receiver.applier.subscriber.applied ≡ []) }
         ensures told { OnOk result (Appends (S.contents socket.old) (S.contents socket.new)
-            (status_at self.new.intake.applier.subscriber.position self.new.clock ask)) }
+            (status_at self.new.receiver.applier.subscriber.position self.new.clock ask)) }
         ensures clock { self.new.clock ≡ self.old.clock }
     {
         self.print(output)?;
@@ -192,20 +198,20 @@ impl Delivery {
 
     /// Tells the server the position.
     fn send_status<S: Write>(&self, ask: bool, socket: &mut S) -> Result<(), FollowFault>
-        requires { self.now.intake.applier.subscriber.applied ≡ [] }
+        requires { self.now.receiver.applier.subscriber.applied ≡ [] }
         ensures part { (count : ℕ) × Appends (S.contents socket.old) (S.contents socket.new)
             (take count
-            (status_at self.now.intake.applier.subscriber.position self.now.clock ask)) }
+            (status_at self.now.receiver.applier.subscriber.position self.now.clock ask)) }
         ensures ok { OnOk result (Appends (S.contents socket.old) (S.contents socket.new)
-            (status_at self.now.intake.applier.subscriber.position self.now.clock ask)) }
+            (status_at self.now.receiver.applier.subscriber.position self.now.clock ask)) }
     {
-        let status = self.intake.status(self.clock, ask);
+        let status = self.receiver.status(self.clock, ask);
         send(&status, socket)
     }
 
     /// The last status, and the end of the stream.
     pub(crate) fn end_stream<S: Write>(&self, socket: &mut S) -> Result<(), FollowFault>
-        requires { self.now.intake.applier.subscriber.applied ≡ [] }
+        requires { self.now.receiver.applier.subscriber.applied ≡ [] }
         ensures goes { (unread : List ℕ) (written : Option (List ℕ)) → Goes
             (standing self.now unread written written (S.contents socket.old))
             (standing self.now unread written written (S.contents socket.new)) }
@@ -221,27 +227,27 @@ impl Delivery {
         ensures goes { (unread : List ℕ) (sent : Option (List ℕ)) → Goes
             (standing self.old unread (W.contents output.old) (W.kept output.old) sent)
             (standing self.new unread (W.contents output.new) (W.kept output.new) sent) }
-        ensures position { self.new.intake.applier.subscriber.position
-            ≡ self.old.intake.applier.subscriber.position }
-        ensures settled { OnOk result (self.new.intake.applier.subscriber.applied ≡ []) }
-        ensures left { OnOk result (self.new.intake.left
-            ≡ self.old.intake.left - length self.old.intake.applier.subscriber.applied) }
+        ensures position { self.new.receiver.applier.subscriber.position
+            ≡ self.old.receiver.applier.subscriber.position }
+        ensures settled { OnOk result (self.new.receiver.applier.subscriber.applied ≡ []) }
+        ensures left { OnOk result (self.new.receiver.left
+            ≡ self.old.receiver.left - length self.old.receiver.applier.subscriber.applied) }
         ensures kept { OnOk result (W.kept output.new ≡ W.contents output.new) }
         ensures clock { self.new.clock ≡ self.old.clock }
     {
         let lines = self.lines()?;
         self.hand(lines.as_slice(), output)?;
-        self.intake.printed();
+        self.receiver.printed();
         Ok(())
     }
 
-    /// Prints what stands behind all, once all is printed.
+    /// Prints what stands after all, once all is printed.
     pub(crate) fn print_last<W: Output>(&mut self, output: &mut W) -> Result<(), FollowFault>
-        requires { self.old.intake.applier.subscriber.applied ≡ [] }
+        requires { self.old.receiver.applier.subscriber.applied ≡ [] }
         ensures goes { (unread : List ℕ) (sent : Option (List ℕ)) → Goes
             (standing self.old unread (W.contents output.old) (W.kept output.old) sent)
             (standing self.new unread (W.contents output.new) (W.kept output.new) sent) }
-        ensures intake { self.new.intake ≡ self.old.intake }
+        ensures receiver { self.new.receiver ≡ self.old.receiver }
         ensures kept { OnOk result (W.kept output.new ≡ W.contents output.new) }
     {
         let lines = self.printer.last(self.alloc)?;
@@ -253,7 +259,7 @@ impl Delivery {
         ensures same { self.new ≡ record self.old { printer = self.new.printer } }
     {
         let mut lines = Vec::new(self.alloc);
-        for transaction in self.intake.unprinted() {
+        for transaction in self.receiver.unprinted() {
             self.printer.add(transaction, &mut lines)?;
         }
         Ok(lines)

@@ -1,9 +1,11 @@
-//! Why a stream was not followed to its end, K1 to K8.
+//! Why a stream was not followed to its end, K1 to K9.
 
+use crate::login_fault::LoginFault;
 use client::ClientFault;
 use frames::{ErrorResponse, FrameFault};
 use message_lines::LineFault;
 use pqformat::Text;
+use scram::ServerFault;
 use std::alloc::AllocError;
 use std::{fmt, io};
 use thiserror::Error;
@@ -89,6 +91,9 @@ pub enum FollowFault {
     /// K7. Positions of one system say nothing of another.
     #[error("K7: {0}")]
     OtherSystem(OtherSystem),
+    /// K9.
+    #[error("K9: {0}")]
+    Login(LoginFault),
 }
 
 impl From<AllocError> for FollowFault {
@@ -100,6 +105,15 @@ impl From<AllocError> for FollowFault {
 impl From<ClientFault> for FollowFault {
     fn from(fault: ClientFault) -> FollowFault {
         FollowFault::Client(fault)
+    }
+}
+
+impl From<ServerFault> for FollowFault {
+    fn from(fault: ServerFault) -> FollowFault {
+        match fault {
+            ServerFault::Memory => FollowFault::Client(ClientFault::Memory),
+            fault => FollowFault::Login(LoginFault::Server(fault)),
+        }
     }
 }
 

@@ -5,8 +5,8 @@ use crate::fault::FollowFault;
 use crate::form::Form;
 use crate::incoming::Incoming;
 use crate::json_transcript::JsonTranscript;
-use crate::kept::Kept;
 use crate::options::Options;
+use crate::resume_point::ResumePoint;
 use crate::streamed::{body_in, carried, message_in, print_lines};
 use client::{Applier, ClientFault};
 use clocks::clock_now;
@@ -16,16 +16,17 @@ use message_lines::render;
 use pgoutput::Logical;
 use std::alloc::{AllocError, Global};
 use std::io::{Read, Write};
+use std::random::RandomSource;
 use std::sync::Wait;
 use std::time::Clock;
 
 /// Asks a server for a stream of the slot, and prints each message on a line, in the form of the options. Behind each Commit, and
-/// behind each message outside of a transaction, it tells the server its position, and once it has as many of these as it should it
+/// after each message outside of a transaction, it tells the server its position, and once it has as many of these as it should it
 /// ends the stream, and reads no more. Then it prints the last line of the form, if it has one.
 ///
-/// K4 is what the server refused. K1 to K3, K5 and K8 are those of an applier. K6 comes where the connection or the output failed,
+/// K4 is what the server refused, K9 where a password isn't proved that it asks for, or where it doesn't know it. K1 to K3, K5 and K8 are those of an applier. K6 comes where the connection or the output failed,
 /// where the connection ended early, or where a command with these names is too long to be sent.
-pub fn follow<R: Wait + Clock, S: Read + Write, W: Write>(
+pub fn follow<R: Wait + Clock + RandomSource, S: Read + Write, W: Write>(
     rt: &R,
     alloc: Global,
     socket: &mut S,
@@ -53,7 +54,7 @@ struct Following {
 fn transcript_in(alloc: Global, form: Form) -> Option<JsonTranscript> {
     match form {
         Form::Text => None,
-        Form::Json => Some(JsonTranscript::new(alloc, &Kept::new())),
+        Form::Json => Some(JsonTranscript::new(alloc, &ResumePoint::new())),
     }
 }
 
@@ -164,7 +165,7 @@ impl Following {
         }
     }
 
-    /// Prints what stands behind all.
+    /// Prints what stands after all.
     fn print_last<W: Write>(&self, output: &mut W) -> Result<(), FollowFault> {
         if let Some(transcript) = &self.transcript {
             print_lines(transcript.summary()?.as_slice(), output)?;

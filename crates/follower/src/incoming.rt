@@ -5,8 +5,10 @@ ghost use Rattle.std.specs.Io.KnownBytes.{Keeps};
 
 use crate::fault::{FollowFault, unread};
 use crate::peer::Peer;
+use crate::request::{RequestKind, framed_request, request_of};
 use bytes::BytesMut;
-use frames::{Back, read_back};
+use client::ClientFault;
+use frames::{AUTHENTICATION, Back, read_back};
 use std::alloc::Global;
 use std::io;
 use std::io::{ErrorKind, Read};
@@ -48,6 +50,41 @@ impl Incoming {
     /// The frame at the front, if it has come whole, and its length.
     pub(crate) fn whole(&self) -> Result<Option<(Back, usize)>, FollowFault> {
         Ok(read_back(self.alloc, self.unread.as_slice())?)
+    }
+
+    /// The next request of one who asks who is there, which is passed over; None where another frame comes.
+    pub(crate) fn next_request<R: Wait, S: Read>(
+        &mut self,
+        rt: &R,
+        socket: &mut S,
+    ) -> Result<Option<(RequestKind, Vec<u8>)>, FollowFault> {
+        for _ in rt.forever() {
+            match self.unread.first() {
+                Some(kind) if *kind != AUTHENTICATION => return Ok(None),
+                _ => {}
+            }
+            if let Some((request, count)) = self.whole_request()? {
+                self.pass(count);
+                return Ok(Some(request));
+            }
+            self.read_more(socket)?;
+        }
+        Err(FollowFault::Ended)
+    }
+
+    /// The request at the front, if it has come whole, and its length.
+    fn whole_request(&self) -> Result<Option<((RequestKind, Vec<u8>), usize)>, FollowFault> {
+        let Some((body, count)) = framed_request(self.unread.as_slice())? else {
+            return Ok(None);
+        };
+        let Some(request) = request_of(body) else {
+            return Err(FollowFault::Client(ClientFault::Frame));
+        };
+        if request.kind == RequestKind::Nothing && !request.more.is_empty() {
+            return Err(FollowFault::Client(ClientFault::Frame));
+        }
+        let more = Vec::from_slice(self.alloc, request.more)?;
+        Ok(Some(((request.kind, more), count)))
     }
 
     /// Waits for more.

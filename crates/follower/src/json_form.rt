@@ -31,7 +31,7 @@ pub(crate) fn json_line(alloc: Global, text: &[u8]) -> Result<Line, AllocError>
     })
 }
 
-/// A position of the log behind what the line ends, if it is whole and ends something.
+/// A position of the log after what the line ends, if it is whole and ends something.
 fn end_told(alloc: Global, text: &[u8]) -> Result<Option<u64>, AllocError>
     ensures whole { (line : List ℕ) → IsUtf8 line → text.now ≡ line ++ 10 ∷ [] →
         IfOk result (λ end. end ≡ end_of line) }

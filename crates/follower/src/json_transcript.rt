@@ -1,9 +1,9 @@
 //! Messages as lines of JSON, the tables that were told before them, and what an output holds with them.
 
 use crate::fault::FollowFault;
-use crate::kept::Kept;
+use crate::line_kind::LineKind;
+use crate::resume_point::ResumePoint;
 use crate::streamed::{begin_of, commit_of};
-use crate::told::Told;
 use client::{Applied, ClientFault};
 use indexmap::IndexMap;
 use message_lines::{
@@ -18,12 +18,12 @@ use std::alloc::{AllocError, Global};
 pub(crate) struct JsonTranscript {
     alloc: Global,
     tables: IndexMap<u32, Relation>,
-    kept: Kept,
+    kept: ResumePoint,
 }
 
 impl JsonTranscript {
     /// Of an output that holds so much already.
-    pub(crate) fn new(alloc: Global, kept: &Kept) -> Self {
+    pub(crate) fn new(alloc: Global, kept: &ResumePoint) -> Self {
         JsonTranscript {
             alloc,
             tables: IndexMap::new(alloc),
@@ -105,7 +105,7 @@ impl JsonTranscript {
             }
             _ => return Ok(()),
         };
-        Ok(self.push(line?.as_slice(), Told::Change, lines)?)
+        Ok(self.push(line?.as_slice(), LineKind::Change, lines)?)
     }
 
     fn add_truncate(
@@ -116,27 +116,27 @@ impl JsonTranscript {
     ) -> Result<(), FollowFault> {
         for oid in truncate.oids.as_slice() {
             let line = truncate_line(self.alloc, position, self.table(*oid)?)?;
-            self.push(line.as_slice(), Told::Change, lines)?;
+            self.push(line.as_slice(), LineKind::Change, lines)?;
         }
         Ok(())
     }
 
     fn add_begin(&mut self, begin: &Begin, lines: &mut Vec<u8>) -> Result<(), FollowFault> {
         let line = begin_line(self.alloc, begin)?;
-        Ok(self.push(line.as_slice(), Told::Begin, lines)?)
+        Ok(self.push(line.as_slice(), LineKind::Begin, lines)?)
     }
 
     fn add_commit(&mut self, commit: &Commit, lines: &mut Vec<u8>) -> Result<(), FollowFault> {
         let line = commit_line(self.alloc, commit)?;
-        Ok(self.push(line.as_slice(), Told::Commit(commit.end), lines)?)
+        Ok(self.push(line.as_slice(), LineKind::Commit(commit.end), lines)?)
     }
 
     fn add_said(&mut self, said: &Message, lines: &mut Vec<u8>) -> Result<(), FollowFault> {
         let line = message_line(self.alloc, said)?;
         let told = if said.is_transactional {
-            Told::Message
+            LineKind::Message
         } else {
-            Told::Note(said.position)
+            LineKind::Note(said.position)
         };
         Ok(self.push(line.as_slice(), told, lines)?)
     }
@@ -149,13 +149,13 @@ impl JsonTranscript {
     }
 
     /// Adds a line, which the output then holds.
-    fn push(&mut self, line: &[u8], told: Told, lines: &mut Vec<u8>) -> Result<(), AllocError> {
+    fn push(&mut self, line: &[u8], told: LineKind, lines: &mut Vec<u8>) -> Result<(), AllocError> {
         lines.extend_from_slice(line)?;
         self.kept.count(&told.line(line.len() as u64));
         Ok(())
     }
 
-    /// The line behind all others.
+    /// The line after all others.
     pub(crate) fn summary(&self) -> Result<Vec<u8>, AllocError> {
         let kept = &self.kept;
         summary_line(self.alloc, kept.transactions, kept.changes, kept.position)

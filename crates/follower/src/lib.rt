@@ -1,36 +1,47 @@
 //! A client that follows a slot: it asks for a stream, prints each message, and acknowledges each transaction; or, over lost
 //! connections, prints each transaction once.
+//!
+//! `follow` does it over one connection, `resume` over as many as it takes, from a `ResumePoint` that an `Output` gives.
+//! `authenticating.rt` proves a password, `asking.rt` speaks to the server, `stream_receiver.rt` takes its stream, `delivery.rt` prints and acknowledges,
+//! `json_form.rt` and `text_form.rt` read kept lines again.
+//!
+//! Read `options.rt`, `resuming.rt`, `delivery.rt`, then specs/Lib.antt. Above, `subcat` uses one contract: what stands in the
+//! output is each published transaction from the start on, once and in order, and nothing is acknowledged that wasn't kept.
 #![tactic(auto)]
 
 mod asking;
+mod authenticating;
 mod delivery;
 mod fault;
 mod following;
 mod form;
 mod giving;
 mod incoming;
-mod intake;
 mod json_form;
 mod json_transcript;
-mod kept;
 mod line;
+mod line_kind;
+mod login_fault;
 mod options;
 mod output;
 mod peer;
 mod printer;
 mod promise;
+mod request;
+mod resume_point;
 mod resuming;
 mod retrying;
+mod sasl_response;
+mod stream_receiver;
 mod streamed;
 mod text_form;
-mod told;
 mod transcript;
 mod whole;
 
 pub use fault::{FollowFault, OtherSystem, ServerError};
 pub use following::follow;
 pub use form::Form;
-pub use kept::Kept;
+pub use login_fault::LoginFault;
 pub use options::Options;
 pub use output::Output;
 pub use peer::Peer;
@@ -38,5 +49,6 @@ pub use promise::{
     a_run_goes_on_behind_the_last_whole_one, each_transaction_is_printed_once,
     each_transaction_stands_once_over_kills, no_acknowledgement_is_ahead, no_transaction_is_lost,
 };
+pub use resume_point::ResumePoint;
 pub use resuming::{Subscription, resume};
 pub use retrying::{LONGEST_PAUSE, Pauses, SHORTEST_PAUSE};

@@ -18,7 +18,7 @@ pub(crate) struct Line {
     pub(crate) is_note: bool,
     /// Whether it tells a change of a table.
     pub(crate) is_change: bool,
-    /// A position of the log behind what it ends: of a Commit where its transaction ends, of a note one in its record.
+    /// A position of the log after what it ends: of a Commit where its transaction ends, of a note one in its record.
     pub(crate) end: Option<u64>,
 }
 

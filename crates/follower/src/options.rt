@@ -19,4 +19,6 @@ pub struct Options<'a> {
     pub count: u32,
     /// How it is printed.
     pub form: Form,
+    /// What is proved to a server that asks for a password.
+    pub password: Option<&'a [u8]>,
 }

@@ -3,7 +3,7 @@
 use crate::fault::FollowFault;
 use crate::form::Form;
 use crate::json_transcript::JsonTranscript;
-use crate::kept::Kept;
+use crate::resume_point::ResumePoint;
 use crate::transcript::Transcript;
 use client::Applied;
 use pgoutput::{Logical, Relation};
@@ -18,7 +18,7 @@ pub(crate) enum Printer {
 
 impl Printer {
     /// For an output that holds so much already.
-    pub(crate) fn new(alloc: Global, form: Form, kept: &Kept) -> Self {
+    pub(crate) fn new(alloc: Global, form: Form, kept: &ResumePoint) -> Self {
         match form {
             Form::Text => Printer::Text(Transcript::new(alloc)),
             Form::Json => Printer::Json(JsonTranscript::new(alloc, kept)),
@@ -58,7 +58,7 @@ impl Printer {
         }
     }
 
-    /// What is printed behind all transactions.
+    /// What is printed after all transactions.
     pub(crate) fn last(&self, alloc: Global) -> Result<Vec<u8>, AllocError> {
         match self {
             Printer::Text(_) => Ok(Vec::new(alloc)),

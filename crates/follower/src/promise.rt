@@ -7,14 +7,14 @@ ghost use Rattle.pgoutput.specs.Items.{Item, bytes_of_items, FitItems};
 ghost use Rattle.client.specs.Law.{AreForward, GainedAll};
 ghost use Rattle.follower.specs.Once.{EachOnce, before};
 ghost use Rattle.follower.specs.declared.line.Line.{Line};
-ghost use Rattle.follower.specs.Kept.{with_lines};
+ghost use Rattle.follower.specs.ResumePoint.{with_lines};
 ghost use Rattle.follower.specs.Found.{BeginsOne, Finds, TellAll, bytes_in, nothing_kept};
 ghost use Rattle.follower.specs.Lives.{EachBehind, Life, Lives, place_behind_all, printed_over};
 ghost use Rattle.follower.specs.Standing.{Standing, Deed, Connects, Does, Runs, Tells};
 ghost use Rattle.follower.specs.Promise.{begun_at, printed_in, AreReceived, received_bytes};
 
 /// Whatever servers send, wherever connections are cut, and whenever something is printed: what was printed, and then what wasn't
-/// yet, came one behind the other from where it began up to the position, each transaction once.
+/// yet, came one after the other from where it began up to the position, each transaction once.
 pub fn each_transaction_is_printed_once()
     ensures { (start : ℕ) (written kept sent : Option (List ℕ)) (deeds : List Deed) (now : Standing)
         (run : Runs (begun_at start written kept sent) deeds now) →
@@ -38,7 +38,7 @@ pub fn no_transaction_is_lost()
         (before (printed ++ printed_in begun deeds now run) now.applier.subscriber) }
 {}
 
-/// Over every list of runs, each ended or killed anywhere and begun anew behind what the output held: what stands in the output came
+/// Over every list of runs, each ended or killed anywhere and begun anew after what the output held: what stands in the output came
 /// one after the other, each once and whole.
 pub fn each_transaction_stands_once_over_kills()
     ensures { (start : ℕ) (printed : List Published) (lives : List Life)
@@ -58,8 +58,8 @@ pub fn no_acknowledgement_is_ahead()
         × (new.kept ≡ new.written) }
 {}
 
-/// Of an output that holds whole transactions and notes, and behind them a beginning of one more or nothing: a run finds the place
-/// behind the last whole one, and cuts off what stands behind that.
+/// Of an output that holds whole transactions and notes, and after them a beginning of one more or nothing: a run finds the place
+/// after the last whole one, and cuts off what stands after that.
 pub fn a_run_goes_on_behind_the_last_whole_one()
     ensures { (ts : List Published) (whole part : List Line) →
         TellAll ts whole → BeginsOne part → bytes_in (whole ++ part) < 2 ^ 64 →

@@ -1,4 +1,4 @@
-//! Following a slot over lost connections: each transaction printed once, whole, and acknowledged behind that.
+//! Following a slot over lost connections: each transaction printed once, whole, and acknowledged after that.
 
 ghost use Rattle.std.specs.Prelude.{◌≡◌, ◌⊎◌, ◌-◌, ◌≤◌, [], ℕ, List, OnErr, OnOk, length};
 ghost use Rattle.std.specs.Io.KnownBytes.{Keeps};
@@ -8,12 +8,13 @@ use crate::asking::{ask_system, create_if_absent, greet, start_stream};
 use crate::delivery::Delivery;
 use crate::fault::{FollowFault, OtherSystem};
 use crate::incoming::Incoming;
-use crate::kept::Kept;
 use crate::options::Options;
 use crate::output::Output;
 use crate::peer::Peer;
+use crate::resume_point::ResumePoint;
 use clocks::clock_now;
 use std::alloc::Global;
+use std::random::RandomSource;
 use std::sync::Wait;
 use std::time::Clock;
 
@@ -32,7 +33,7 @@ pub struct Subscription {
 impl Subscription {
     /// Of one who has all that commits below the position of the options.
     pub fn new(alloc: Global, options: &Options<'_>) -> Self {
-        Subscription::behind(alloc, options, &Kept::new(), None)
+        Subscription::behind(alloc, options, &ResumePoint::new(), None)
     }
 
     /// Of one whose output holds so much already, up to its last whole transaction, and counts; and of this system, where that is
@@ -40,7 +41,7 @@ impl Subscription {
     pub fn behind(
         alloc: Global,
         options: &Options<'_>,
-        kept: &Kept,
+        kept: &ResumePoint,
         system: Option<String>,
     ) -> Self {
         let position = options.position.max(kept.position);
@@ -56,7 +57,7 @@ impl Subscription {
 
     /// All that commits below it was printed.
     pub fn position(&self) -> u64 {
-        self.delivery.intake.position()
+        self.delivery.receiver.position()
     }
 }
 
@@ -65,11 +66,11 @@ impl Subscription {
 /// `options.create` asks for is that the slot is there. Each transaction is printed when it is whole, and once, whatever came of
 /// it on connections before; the Relation of a table stands in front of its first change. What was printed is acknowledged before
 /// more is read, and where the server asks. Where a read of the socket gives up, the server is asked for a keepalive; where the
-/// next one does too, it is silent. Behind all of them stands the last line of the form, if it has one.
+/// next one does too, it is silent. After all of them stands the last line of the form, if it has one.
 ///
 /// Where the fault is a passing one (`FollowFault::is_passing`), the subscription goes on over another connection. Once all is
 /// printed, a connection that is lost is no fault.
-pub fn resume<R: Wait + Clock, S: Peer, W: Output>(
+pub fn resume<R: Wait + Clock + RandomSource, S: Peer, W: Output>(
     rt: &R,
     alloc: Global,
     socket: &mut S,
@@ -82,8 +83,8 @@ pub fn resume<R: Wait + Clock, S: Peer, W: Output>(
         (S.contents socket.old))
         (standing subscription.new.delivery left (W.contents output.new) (W.kept output.new)
         (S.contents socket.new)) }
-    ensures all { OnOk result ((subscription.new.delivery.intake.applier.subscriber.applied ≡ [])
-        × (subscription.new.delivery.intake.left ≡ 0)
+    ensures all { OnOk result ((subscription.new.delivery.receiver.applier.subscriber.applied ≡ [])
+        × (subscription.new.delivery.receiver.left ≡ 0)
         × (W.kept output.new ≡ W.contents output.new)) }
 {
     let mut incoming = Incoming::new(alloc);
@@ -98,7 +99,7 @@ pub fn resume<R: Wait + Clock, S: Peer, W: Output>(
 
 impl Subscription {
     /// Asks for the stream, up to its first frame.
-    fn ask_for_stream<R: Wait, S: Peer, W: Output>(
+    fn ask_for_stream<R: Wait + RandomSource, S: Peer, W: Output>(
         &mut self,
         rt: &R,
         incoming: &mut Incoming,
@@ -113,12 +114,12 @@ impl Subscription {
     {
         self.introduce(rt, incoming, socket, options, output)?;
         self.is_asked = false;
-        let position = self.delivery.intake.connect();
+        let position = self.delivery.receiver.connect();
         start_stream(rt, self.alloc, incoming, socket, options, position)
     }
 
     /// Meets the server, and creates the slot once: if it is dropped later, what it missed would be lost.
-    fn introduce<R: Wait, S: Peer, W: Output>(
+    fn introduce<R: Wait + RandomSource, S: Peer, W: Output>(
         &mut self,
         rt: &R,
         incoming: &mut Incoming,
@@ -129,7 +130,7 @@ impl Subscription {
         ensures written { Keeps (W.contents output.old) (W.contents output.new) }
         ensures delivery { self.new.delivery ≡ self.old.delivery }
     {
-        greet(rt, incoming, socket)?;
+        greet(rt, self.alloc, incoming, socket, options)?;
         let system = ask_system(rt, self.alloc, incoming, socket)?;
         self.meet(system, output)?;
         if options.create && !self.is_created {
@@ -169,11 +170,11 @@ impl Subscription {
             (W.kept output.old) (S.contents socket.old))
             (standing self.new.delivery incoming.new.unread.items (W.contents output.new)
             (W.kept output.new) (S.contents socket.new)) }
-        ensures complete { OnOk result (self.new.delivery.intake.left
-            ≤ length self.new.delivery.intake.applier.subscriber.applied) }
+        ensures complete { OnOk result (self.new.delivery.receiver.left
+            ≤ length self.new.delivery.receiver.applier.subscriber.applied) }
     {
         for _ in rt.forever() {
-            if self.delivery.intake.is_complete() {
+            if self.delivery.receiver.is_complete() {
                 break;
             }
             self.tell_time(rt);
@@ -244,7 +245,7 @@ impl Subscription {
         }
     }
 
-    /// Prints what came before the end, and behind all of it the last line; then ends the stream.
+    /// Prints what came before the end, and after all of it the last line; then ends the stream.
     fn finish<S: Peer, W: Output>(
         &mut self,
         ended: Result<(), FollowFault>,
@@ -256,10 +257,10 @@ impl Subscription {
             (S.contents socket.old))
             (standing self.new.delivery unread (W.contents output.new) (W.kept output.new)
             (S.contents socket.new)) }
-        ensures all { OnOk result ((self.new.delivery.intake.applier.subscriber.applied ≡ [])
+        ensures all { OnOk result ((self.new.delivery.receiver.applier.subscriber.applied ≡ [])
             × (W.kept output.new ≡ W.contents output.new)) }
-        ensures left { OnOk result (self.new.delivery.intake.left ≡ self.old.delivery.intake.left
-            - length self.old.delivery.intake.applier.subscriber.applied) }
+        ensures left { OnOk result (self.new.delivery.receiver.left ≡ self.old.delivery.receiver.left
+            - length self.old.delivery.receiver.applier.subscriber.applied) }
         ensures ended { OnErr ended (OnOk result ⊥) }
     {
         self.delivery.print(output)?;

@@ -29,7 +29,7 @@ impl Pauses {
         }
     }
 
-    /// The next pause, behind a connection on which something came or nothing.
+    /// The next pause, after a connection on which something came or nothing.
     pub fn pause(&mut self, has_gained: bool) -> u64
         ensures pause { result ≡ (if has_gained then SHORTEST_PAUSE else self.old.next) }
         ensures next { self.new.next ≡ min (2 * result) LONGEST_PAUSE }
@@ -57,7 +57,8 @@ impl FollowFault {
             FollowFault::Client(_)
             | FollowFault::LongCommand
             | FollowFault::Output(_)
-            | FollowFault::OtherSystem(_) => false,
+            | FollowFault::OtherSystem(_)
+            | FollowFault::Login(_) => false,
         }
     }
 }

@@ -6,7 +6,7 @@ use crate::fault::{FollowFault, told};
 use client::{Applied, ClientFault};
 use copyboth::{ServerBody, read_server};
 use frames::{Back, CopyData};
-use pgoutput::{Begin, Commit, Logical, OutFault, read_logical};
+use pgoutput::{Begin, Commit, Logical, PgoutputError, read_logical};
 use std::alloc::Global;
 use std::io::Write;
 
@@ -42,7 +42,7 @@ pub(crate) fn body_in(data: &CopyData) -> Result<ServerBody<'_>, FollowFault> {
 pub(crate) fn message_in(alloc: Global, payload: &[u8]) -> Result<Logical, FollowFault> {
     match read_logical(alloc, payload) {
         Ok(message) => Ok(message),
-        Err(OutFault::Memory) => Err(FollowFault::Client(ClientFault::Memory)),
+        Err(PgoutputError::Memory) => Err(FollowFault::Client(ClientFault::Memory)),
         Err(_) => Err(FollowFault::Client(ClientFault::Frame)),
     }
 }

@@ -60,7 +60,7 @@ fn is_change(text: &[u8]) -> bool
     starts(text, INSERT) || starts(text, UPDATE) || starts(text, DELETE) || starts(text, TRUNCATE)
 }
 
-/// A position of the log behind what the line ends, if it is whole and ends something.
+/// A position of the log after what the line ends, if it is whole and ends something.
 fn end_told(line: &[u8]) -> Option<u64>
     ensures end { IfSome result (λ end. TellsEnd line.now end) }
     ensures commit { (start end : ℕ) (time : ℤ) → start < 2 ^ 64 → end < 2 ^ 64 →
@@ -73,7 +73,7 @@ fn end_told(line: &[u8]) -> Option<u64>
     }
 }
 
-/// A position behind the start of the note whose line this is, whole.
+/// A position after the start of the note whose line this is, whole.
 fn end_of_note(line: &[u8]) -> Option<u64>
     ensures { IfSome result (λ end. TellsNoteBefore line.now end) }
 {
@@ -105,7 +105,7 @@ fn is_time(text: &str) -> bool
     text.parse::<i64>().is_ok()
 }
 
-/// What stands behind this front of a line.
+/// What stands after this front of a line.
 fn behind<'a>(line: &'a str, front: &str) -> Option<&'a str>
     ensures found { IfSome result (λ text. line.now ≡ front.now ++ text.now) }
     ensures none { result ≡ None → (text : List ℕ) → line.now ≡ front.now ++ text → ⊥ }
@@ -113,7 +113,7 @@ fn behind<'a>(line: &'a str, front: &str) -> Option<&'a str>
     line.strip_prefix(front)
 }
 
-/// What stands before and behind the first blank.
+/// What stands before and after the first blank.
 fn halves(text: &str) -> Option<(&str, &str)>
     ensures found { IfSome result (λ both. text.now ≡ both.0.now ++ 32 ∷ both.1.now) }
     ensures first { IfSome result (λ both. HasNoBlank both.0.now) }

@@ -55,7 +55,7 @@ use Rattle.frames.proofs.ClosedLists.{until_body}
 use Rattle.frames.proofs.StartupBodies.{parameter_codec, key_codec, empty_body}
 use Rattle.frames.proofs.Readers.{AreBodies}
 
--- all bytes are those of CopyData, so nothing stands behind it
+-- all bytes are those of CopyData, so nothing stands after it
 copy_data_body : Body copy_data_at copy_data (λ _. Unit {0})
 copy_data_body = record { takes = takes; again = λ m fits. refl }
   where

@@ -33,13 +33,13 @@ pub waits_for_kind : {F : Type 0} (limit : ℕ → Option ℕ) (of : ℕ → Lis
 waits_for_kind limit of [] e = refl
 waits_for_kind limit of (b ∷ bytes) e = absurd cc
 
--- no body is read behind the type byte
+-- no body is read after the type byte
 pub fails_at_body : {F : Type 0} (limit : ℕ → Option ℕ) (of : ℕ → List ℕ → Result F FrameFault) (most : Option ℕ) (bytes : List ℕ) (kind : ℕ) (rest : List ℕ) (e : FrameFault)
     → byte_at bytes ≡ Some (kind, rest) → most ≡ limit kind → Fails e (body_at most rest) → Fails e (framed_at limit of bytes)
 fails_at_body limit of most bytes kind rest e first is failed =
     rw (raw_is limit most bytes kind rest first is) (fails_on e (body_at most rest >>= λ found. Ok (with_kind kind found)) (λ raw. whole_of of raw) (fails_on e (body_at most rest) (λ found. Ok (with_kind kind found)) failed))
 
--- what stands behind the type byte
+-- what stands after the type byte
 pub raw_found : (limit : ℕ → Option ℕ) (most : Option ℕ) (bytes : List ℕ) (kind : ℕ) (rest : List ℕ) (found : Option (List ℕ × ℕ))
     → byte_at bytes ≡ Some (kind, rest) → most ≡ limit kind → body_at most rest ≡ Ok found → raw_at limit bytes ≡ Ok (with_kind kind found)
 raw_found limit most bytes kind rest found first is there =

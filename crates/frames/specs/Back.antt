@@ -101,7 +101,7 @@ FitsBack f = Fits IsShapedBack is_back_text f
 abbrev pub SpellsBack : List ℕ → Back → Type 0
 SpellsBack bytes f = SpellsFrame back_kind back_body FitsBack bytes f
 
--- the greatest length field behind a type byte; None: no frame has that byte
+-- the greatest length field after a type byte; None: no frame has that byte
 abbrev pub back_limit : ℕ → Option ℕ
 back_limit kind =
     if kind == AUTHENTICATION then Some FRAME_LIMIT

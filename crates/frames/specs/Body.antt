@@ -1,4 +1,4 @@
--- A body that is read whole: first its parts, one behind the other, with nothing left over, and then its texts.
+-- A body that is read whole: first its parts, one after the other, with nothing left over, and then its texts.
 use Rattle.std.specs.Prelude.{◌≡◌, ℕ, ◌==◌, Bool, true, false, not, List, [], ◌∷◌, Option, Result, Ok, Err, if◌then◌else◌}
 use Rattle.std.specs.Option.{ok_or}
 use Rattle.pqformat.specs.Fields.{string_at}

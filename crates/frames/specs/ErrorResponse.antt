@@ -1,4 +1,4 @@
--- ErrorResponse (PostgreSQL 15, 55.7 and 55.8): fields, each a code byte and a text, and a zero byte behind them.
+-- ErrorResponse (PostgreSQL 15, 55.7 and 55.8): fields, each a code byte and a text, and a zero byte after them.
 use Rattle.std.specs.Prelude.{◌≡◌, ℕ, ◌<◌, ◌==◌, Bool, true, false, not, List, [], ◌∷◌, ◌++◌, Result, Ok}
 use Rattle.std.specs.Str.{is_utf8}
 use Rattle.frames.specs.declared.error_response.ErrorField.{ErrorField}

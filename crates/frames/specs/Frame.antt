@@ -46,7 +46,7 @@ with_size n found = option_map (λ body. (body.0, 1 + n)) found
 abbrev pub with_kind : ℕ → Option (List ℕ × ℕ) → Option ((ℕ × List ℕ) × ℕ)
 with_kind kind found = option_map (λ body. ((kind, body.0), body.1)) found
 
--- the body behind a length, and how many bytes the whole frame takes; None while it isn't there whole
+-- the body after a length, and how many bytes the whole frame takes; None while it isn't there whole
 abbrev pub sized_at : ℕ → Option (ℕ × List ℕ) → Result (Option (List ℕ × ℕ)) FrameFault
 sized_at limit None = Ok None
 sized_at limit (Some n) =
@@ -54,7 +54,7 @@ sized_at limit (Some n) =
     else if nat_lt limit n.0 then Err TooLong
     else Ok (with_size n.0 (bytes_at (n.0 - 4) n.1))
 
--- what stands behind a type byte whose frames have this limit; None: no frame has that byte
+-- what stands after a type byte whose frames have this limit; None: no frame has that byte
 abbrev pub body_at : Option ℕ → List ℕ → Result (Option (List ℕ × ℕ)) FrameFault
 body_at limit bytes = ok_or limit UnknownType >>= λ most. sized_at most (number_at w32 bytes)
 

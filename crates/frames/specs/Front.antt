@@ -58,7 +58,7 @@ FitsFront f = Fits IsShapedFront is_front_text f
 abbrev pub SpellsFront : List ℕ → Front → Type 0
 SpellsFront bytes f = SpellsFrame front_kind front_body FitsFront bytes f
 
--- the greatest length field behind a type byte; None: no frame has that byte
+-- the greatest length field after a type byte; None: no frame has that byte
 abbrev pub front_limit : ℕ → Option ℕ
 front_limit kind =
     if kind == QUERY then Some QUERY_LIMIT

@@ -55,7 +55,7 @@ pub record SpellsStartup (bytes : List ℕ) (f : Startup) : Type 0 where
 
 -- ---- How it is read: the length, the number, and the rest once it is whole.
 
--- the greatest length behind a number; None: no startup has it
+-- the greatest length after a number; None: no startup has it
 abbrev pub startup_limit : ℕ → Option ℕ
 startup_limit number =
     if number == PROTOCOL_VERSION then Some STARTUP_LIMIT

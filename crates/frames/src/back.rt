@@ -249,7 +249,7 @@ fn body_len(message: &Back) -> usize
 }
 
 /// The law of the grammar: of two frames whose spellings begin the same bytes, one is the other. So no spelling of a
-/// frame is a proper beginning of another's, and frames that stand one behind the other are read in one way.
+/// frame is a proper beginning of another's, and frames that stand one after the other are read in one way.
 pub fn no_back_begins_another()
     ensures { (a b x y : List ℕ) (f g : Back) → SpellsBack a f → SpellsBack b g → a ++ x ≡ b ++ y →
         (a ≡ b) × (f ≡ g) × (x ≡ y) }

@@ -42,7 +42,7 @@ pub enum DataValue {
     Bytes(Items<u8>),
 }
 
-/// The bytes behind the length of a value; None: a null.
+/// The bytes after the length of a value; None: a null.
 #[tactic(auto, unfolding(crate::specs::DataRow::value_at))]
 fn lent_value<'a>(cursor: &mut Cursor<'a>) -> Result<Option<&'a [u8]>, FrameFault>
     ensures { ReadsAt (as_value result) cursor.new (passed_part (λ v. v) (value_at cursor.old)) }

@@ -14,7 +14,7 @@ use std::alloc::AllocError;
 /// The greatest length field of a frame that has no limit of its own.
 pub const FRAME_LIMIT: u32 = 1_048_576;
 
-/// The body behind a type byte whose frames have this limit, and how many bytes the frame takes; None while it isn't
+/// The body after a type byte whose frames have this limit, and how many bytes the frame takes; None while it isn't
 /// there whole. A type byte with no limit is no frame's.
 pub(crate) fn body_of<'a>(
     cursor: &mut Cursor<'a>,

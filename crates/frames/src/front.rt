@@ -161,7 +161,7 @@ fn body_len(message: &Front) -> usize
 }
 
 /// The law of the grammar: of two frames whose spellings begin the same bytes, one is the other. So no spelling of a
-/// frame is a proper beginning of another's, and frames that stand one behind the other are read in one way.
+/// frame is a proper beginning of another's, and frames that stand one after the other are read in one way.
 pub fn no_front_begins_another()
     ensures { (a b x y : List ℕ) (f g : Front) → SpellsFront a f → SpellsFront b g →
         a ++ x ≡ b ++ y → (a ≡ b) × (f ≡ g) × (x ≡ y) }

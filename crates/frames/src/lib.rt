@@ -1,4 +1,12 @@
 //! Frames of the PostgreSQL frontend/backend protocol: a type byte, a length and a body.
+//!
+//! A file for each frame: the struct with its fields, its tag, its reader and its writer. `front.rt` has what a client sends and
+//! `back.rt` what a server sends, each an enum over those; `startup.rt` has what comes before the first tag; `frame.rt` the
+//! length that all have.
+//!
+//! Read `query.rt` as one of the kind, then `front.rt`. Above, one contract is used: `read_front` and `read_back` find exactly
+//! the frame that the bytes begin with, wait while it isn't there whole, or name its fault; and no spelling begins another's, so
+//! that cuts change nothing.
 #![tactic(auto)]
 
 mod authentication_ok;

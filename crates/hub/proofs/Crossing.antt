@@ -18,9 +18,9 @@ use Rattle.walsender.proofs.outgoing.Outgoing.TheSendSync as outgoing
 use Rattle.walsender.specs.contracts.sender.Sender as sender
 use Rattle.walsender.specs.contracts.sender.Sender.TheInside as inside
 use Rattle.walsender.specs.contracts.walsender.Walsender as walsender
-use Rattle.connections.specs.contracts.line.Line as line
+use Rattle.connections.specs.contracts.connection_mailbox.ConnectionMailbox as mailbox
 use Rattle.connections.proofs.Crossing.{arrival_sync, hold_send, inbox_send}
-use Rattle.commons.proofs.Crossing.{commons_sync, selection_send}
+use Rattle.server_state.proofs.Crossing.{server_state_sync, selection_send}
 use Rattle.hub.specs.contracts.new_stream.NewStream as new_stream
 use Rattle.hub.specs.contracts.streaming.Stream as stream
 use Rattle.hub.specs.contracts.hub.Hub as hub
@@ -63,8 +63,8 @@ module _ (L : RattleType) (s : slot_name.Ghosts L.Denot) (l : log_name.Ghosts L.
   begun_send = declared_send (new_stream.the_type L s l) (boxed_send, tt)
 
   -- what the two threads of a connection have in common
-  pub line_sync : IsSync (line.the_row begun)
-  line_sync = declared_sync (line.the_type begun) (
+  pub mailbox_sync : IsSync (mailbox.the_row begun)
+  mailbox_sync = declared_sync (mailbox.the_type begun) (
     heap.sync,
     (
       search (inbox_send, heap.crosses, sendable) depth 10,
@@ -73,10 +73,10 @@ module _ (L : RattleType) (s : slot_name.Ghosts L.Denot) (l : log_name.Ghosts L.
   )
 
   pub hub_sync : IsSync (hub.the_row L s l)
-  hub_sync = declared_sync (hub.the_type L s l) (commons_sync L s l, tt)
+  hub_sync = declared_sync (hub.the_type L s l) (server_state_sync L s l, tt)
 
 -- what a closure needs that shares a hub, as a set for `search`
 pub ruleset crosses = (closure_send, both, hub_sync, sendable)
 
 -- what those need that serve from it
-pub ruleset serves = (closure_send, both, commons_sync, line_sync, arrival_sync, sendable)
+pub ruleset serves = (closure_send, both, server_state_sync, mailbox_sync, arrival_sync, sendable)

@@ -116,24 +116,24 @@ told_answers work old informed new seat seat_then seat_after before after is (in
     )
 
 -- one turn more after others, all of which went well
-turns_more : {D L : Type 0} (told : D → Work → D → Type 0) (place : ℕ) (last : Work → Standing L → Standing L → Type 0) (first : Work) (works : List Work) (work : Work) (desk given after : D) (old between new : Standing L)
-    → Turns told place Answers first works desk old given between → told given work after → Turn place work between new → last work between new → Turns told place last first (works ++ work ∷ []) desk old after new
-turns_more {D} {L} told place last first [] work desk given after old between new (no_more, turn, answered) gives one ends =
+turns_more : {D L : Type 0} (told : D → Work → D → Type 0) (place : ℕ) (last : Work → Standing L → Standing L → Type 0) (first : Work) (works : List Work) (work : Work) (backend given after : D) (old between new : Standing L)
+    → Turns told place Answers first works backend old given between → told given work after → Turn place work between new → last work between new → Turns told place last first (works ++ work ∷ []) backend old after new
+turns_more {D} {L} told place last first [] work backend given after old between new (no_more, turn, answered) gives one ends =
     let Gives : D → Type 0 = λ d. told d work after in
     (after, between, turn, answered, subst Gives no_more gives, (refl, one, ends))
-turns_more told place last first (w ∷ works) work desk given after old between new (early, then, turned, answered, gave, rest) gives one ends =
+turns_more told place last first (w ∷ works) work backend given after old between new (early, then, turned, answered, gave, rest) gives one ends =
     (early, then, turned, answered, gave, turns_more told place last w works work early given after then between new rest gives one ends)
 
 -- the turn of the first work
-pub first_turn : {D L : Type 0} (told : D → Work → D → Type 0) (place : ℕ) (last : Work → Standing L → Standing L → Type 0) (first : Work) (desk : D) (old new : Standing L) → Turn place first old new → last first old new
-    → TakesTurns told place last first desk old desk new
-first_turn told place last first desk old new turn ends = ([], (refl, turn, ends))
+pub first_turn : {D L : Type 0} (told : D → Work → D → Type 0) (place : ℕ) (last : Work → Standing L → Standing L → Type 0) (first : Work) (backend : D) (old new : Standing L) → Turn place first old new → last first old new
+    → TakesTurns told place last first backend old backend new
+first_turn told place last first backend old new turn ends = ([], (refl, turn, ends))
 
 -- one turn more
-pub one_turn_more : {D L : Type 0} (told : D → Work → D → Type 0) (place : ℕ) (last : Work → Standing L → Standing L → Type 0) (first work : Work) (desk given after : D) (old between new : Standing L)
-    → TakesTurns told place Answers first desk old given between → told given work after → Turn place work between new → last work between new → TakesTurns told place last first desk old after new
-one_turn_more told place last first work desk given after old between new (works, turns) gives one ends =
-    (works ++ work ∷ [], turns_more told place last first works work desk given after old between new turns gives one ends)
+pub one_turn_more : {D L : Type 0} (told : D → Work → D → Type 0) (place : ℕ) (last : Work → Standing L → Standing L → Type 0) (first work : Work) (backend given after : D) (old between new : Standing L)
+    → TakesTurns told place Answers first backend old given between → told given work after → Turn place work between new → last work between new → TakesTurns told place last first backend old after new
+one_turn_more told place last first work backend given after old between new (works, turns) gives one ends =
+    (works ++ work ∷ [], turns_more told place last first works work backend given after old between new turns gives one ends)
 
 -- of a turn that failed nothing is known
 pub ended_with_fault : {L T E : Type 0} (r : Result T E) (work : Work) (old new : Standing L) → IsErr r → Ended r work old new
@@ -141,32 +141,32 @@ ended_with_fault (Ok done) work old new is = let never : false ≡ true = is in 
 ended_with_fault (Err fault) work old new is = tt
 
 -- turns one after the other write the stream
-turns_write : {D L : Type 0} (told : D → Work → D → Type 0) (place : ℕ) (last : Work → Standing L → Standing L → Type 0) (first : Work) (works : List Work) (desk : D) (old : Standing L) (after : D) (new : Standing L)
-    → Turns told place last first works desk old after new → StreamsOn old.walsender new.walsender old.written new.written
-turns_write told place last first [] desk old after new (same, turn, ends) = turn.1
-turns_write told place last first (work ∷ works) desk old after new (given, mid, turn, answered, gives, rest) =
+turns_write : {D L : Type 0} (told : D → Work → D → Type 0) (place : ℕ) (last : Work → Standing L → Standing L → Type 0) (first : Work) (works : List Work) (backend : D) (old : Standing L) (after : D) (new : Standing L)
+    → Turns told place last first works backend old after new → StreamsOn old.walsender new.walsender old.written new.written
+turns_write told place last first [] backend old after new (same, turn, ends) = turn.1
+turns_write told place last first (work ∷ works) backend old after new (given, mid, turn, answered, gives, rest) =
     one_more old.walsender mid.walsender new.walsender old.written mid.written new.written turn.1 (turns_write told place last work works given mid after new rest)
 
-writes_stream : {D L : Type 0} (told : D → Work → D → Type 0) (place : ℕ) (last : Work → Standing L → Standing L → Type 0) (first : Work) (desk : D) (old : Standing L) (after : D) (end : Standing L)
-    → ∥ Serves (seen_of old.walsender.reader) [] old.walsender ∥₁ → TakesTurns told place last first desk old after end → ∥ WritesStream old end ∥₁
-writes_stream told place last first desk old after end new (works, turns) =
-    let (given, goes, appended) = turns_write told place last first works desk old after end turns in
+writes_stream : {D L : Type 0} (told : D → Work → D → Type 0) (place : ℕ) (last : Work → Standing L → Standing L → Type 0) (first : Work) (backend : D) (old : Standing L) (after : D) (end : Standing L)
+    → ∥ Serves (seen_of old.walsender.reader) [] old.walsender ∥₁ → TakesTurns told place last first backend old after end → ∥ WritesStream old end ∥₁
+writes_stream told place last first backend old after end new (works, turns) =
+    let (given, goes, appended) = turns_write told place last first works backend old after end turns in
     ∥∥₁_map new (λ serves. (given, goes [] serves, appended))
 
 -- ---- the end of a stream
 
 -- its client asked for it
-pub left_at_end : {D L : Type 0} (told : D → Work → D → Type 0) (place : ℕ) (first : Work) (r : Result (Unit {0}) ConnectionEnd) (desk after : D) (old : Standing L) (position : ℕ) (seat : View) (written : Option (List ℕ)) → ∥ Serves (seen_of old.walsender.reader) [] old.walsender ∥₁ → is_err r ≡ false
-    → EndsTurns told place first r desk old after position seat written → LeavesSlot told place first r desk old after seat written
-left_at_end told place first (Ok done) desk after old position seat written new ok (end, last, turns, read, same, by) = (end, last, turns, writes_stream told place (Ended last) first desk old after end new turns, same, by)
-left_at_end told place first (Err over) desk after old position seat written new ok ends = absurd cc
+pub left_at_end : {D L : Type 0} (told : D → Work → D → Type 0) (place : ℕ) (first : Work) (r : Result (Unit {0}) ConnectionEnd) (backend after : D) (old : Standing L) (position : ℕ) (seat : View) (written : Option (List ℕ)) → ∥ Serves (seen_of old.walsender.reader) [] old.walsender ∥₁ → is_err r ≡ false
+    → EndsTurns told place first r backend old after position seat written → LeavesSlot told place first r backend old after seat written
+left_at_end told place first (Ok done) backend after old position seat written new ok (end, last, turns, read, same, by) = (end, last, turns, writes_stream told place (Ended last) first backend old after end new turns, same, by)
+left_at_end told place first (Err over) backend after old position seat written new ok ends = absurd cc
 
 -- the connection is over
-pub left_at_close : {D L : Type 0} (told : D → Work → D → Type 0) (place here : ℕ) (first work : Work) (r : Result (Unit {0}) ConnectionEnd) (desk closed after : D) (old : Standing L) (position : ℕ) (seat seat_after : View) (written : Option (List ℕ)) → ∥ Serves (seen_of old.walsender.reader) [] old.walsender ∥₁ → is_err r ≡ true → here ≡ place
-    → EndsTurns told place first r desk old closed position seat written → told closed work after → Confirms work.flushed position here seat seat_after → LeavesSlot told place first r desk old after seat_after written
-left_at_close told place here first work (Ok done) desk closed after old position seat seat_after written new err at ends gives confirmed = absurd cc
-left_at_close told place here first work (Err over) desk closed after old position seat seat_after written new err at (end, last, turns, read, same, by) gives confirmed =
+pub left_at_close : {D L : Type 0} (told : D → Work → D → Type 0) (place here : ℕ) (first work : Work) (r : Result (Unit {0}) ConnectionEnd) (backend closed after : D) (old : Standing L) (position : ℕ) (seat seat_after : View) (written : Option (List ℕ)) → ∥ Serves (seen_of old.walsender.reader) [] old.walsender ∥₁ → is_err r ≡ true → here ≡ place
+    → EndsTurns told place first r backend old closed position seat written → told closed work after → Confirms work.flushed position here seat seat_after → LeavesSlot told place first r backend old after seat_after written
+left_at_close told place here first work (Ok done) backend closed after old position seat seat_after written new err at ends gives confirmed = absurd cc
+left_at_close told place here first work (Err over) backend closed after old position seat seat_after written new err at (end, last, turns, read, same, by) gives confirmed =
     let At : ℕ → Type 0 = λ p. Confirms work.flushed position p seat seat_after in
     let Read : ℕ → Type 0 = λ n. Confirms work.flushed n place seat seat_after in
     let From : View → Type 0 = λ v. Confirms work.flushed end.walsender.sender.position place v seat_after in
-    (end, last, closed, work, turns, writes_stream told place (Ended last) first desk old closed end new turns, gives, subst From same (subst Read read (subst At at confirmed)), by)
+    (end, last, closed, work, turns, writes_stream told place (Ended last) first backend old closed end new turns, gives, subst From same (subst Read read (subst At at confirmed)), by)

@@ -2,8 +2,8 @@
 use Rattle.std.specs.Prelude.{◌≡◌, ◌⊎◌, ℕ, ℤ, ◌≤◌, zero, suc, List, [], ◌++◌, length, replicate, Bool, None, Some, true, false}
 use Rattle.std.specs.declared.option.Option.{Option}
 use Rattle.chgarena.specs.Strands.{Strands as Arena}
-use Rattle.connections.specs.declared.words.Trouble.{Trouble}
-use Rattle.connections.specs.Troubles.{told_trouble}
+use Rattle.connections.specs.declared.words.StreamError.{StreamError}
+use Rattle.connections.specs.StreamErrors.{told_stream_error}
 use Rattle.std.specs.Io.KnownBytes.{Appends}
 use Rattle.pgoutput.specs.Words.{word_bytes}
 use Rattle.pgoutput.specs.Items.{keepalive_word}
@@ -37,10 +37,10 @@ asking true position clock = word_bytes (keepalive_word position clock true)
 abbrev pub StreamsOn : {L : Type 0} → Walsender L → Walsender L → Option (List ℕ) → Option (List ℕ) → Type 0
 StreamsOn old new before after = (given : List ℕ) × GoesOn given old new × Appends before after given
 
--- the words of a trouble, if there is one
-abbrev pub words_of : Option Trouble → List ℕ
+-- the words of a stream's error, if there is one
+abbrev pub words_of : Option StreamError → List ℕ
 words_of None = []
-words_of (Some trouble) = told_trouble trouble
+words_of (Some stream_error) = told_stream_error stream_error
 
 -- what was held was written, and these words, if there are any, only after all of it
 abbrev pub WordsBehind : {L : Type 0} → List ℕ → Walsender L → Walsender L → Option (List ℕ) → Option (List ℕ) → Type 0

@@ -20,8 +20,8 @@ use Rattle.walsender.specs.declared.turn_fault.TurnFault.{TurnFault}
 use Rattle.walsender.specs.declared.turn_fault.TurnFault.TheVariants as turns
 use Rattle.connections.specs.declared.fault.ConnectionEnd.{ConnectionEnd}
 use Rattle.connections.specs.declared.fault.ConnectionEnd.TheVariants as ends
-use Rattle.connections.specs.declared.words.Trouble.{Trouble}
-use Rattle.connections.specs.declared.words.Trouble.TheVariants as troubles
+use Rattle.connections.specs.declared.words.StreamError.{StreamError}
+use Rattle.connections.specs.declared.words.StreamError.TheVariants as stream_errors
 use Rattle.connections.specs.declared.inbox.Work.{Work}
 use Rattle.hub.specs.Streams.{StreamsOn, asking, keepalives}
 
@@ -80,14 +80,14 @@ abbrev pub Ended : {L T E : Type 0} → Result T E → Work → Standing L → S
 Ended (Ok done) = Answers
 Ended (Err fault) = λ work old new. Unit {0}
 
--- A turn for the first work, and for each of those that a desk gave after it, one after the other. All went well but perhaps the last.
+-- A turn for the first work, and for each of those that a backend gave after it, one after the other. All went well but perhaps the last.
 abbrev pub Turns : {D L : Type 0} → (D → Work → D → Type 0) → ℕ → (Work → Standing L → Standing L → Type 0) → Work → List Work → D → Standing L → D → Standing L → Type 0
-Turns told place last first [] desk old after new = (after ≡ desk) × Turn place first old new × last first old new
-Turns {D} {L} told place last first (work ∷ rest) desk old after new =
-    (given : D) × (mid : Standing L) × Turn place first old mid × Answers first old mid × told desk work given × Turns told place last work rest given mid after new
+Turns told place last first [] backend old after new = (after ≡ backend) × Turn place first old new × last first old new
+Turns {D} {L} told place last first (work ∷ rest) backend old after new =
+    (given : D) × (mid : Standing L) × Turn place first old mid × Answers first old mid × told backend work given × Turns told place last work rest given mid after new
 
 abbrev pub TakesTurns : {D L : Type 0} → (D → Work → D → Type 0) → ℕ → (Work → Standing L → Standing L → Type 0) → Work → D → Standing L → D → Standing L → Type 0
-TakesTurns told place last first desk old after new = (works : List Work) × Turns told place last first works desk old after new
+TakesTurns told place last first backend old after new = (works : List Work) × Turns told place last first works backend old after new
 
 -- how a connection ends whose stream's turn failed so
 abbrev pub end_of_fault : TurnFault → ConnectionEnd
@@ -100,12 +100,12 @@ end_of_fault turns.Stale = ends.NoEntry
 end_of_fault turns.Removed = ends.Removed
 
 -- what its client is told of that, if it can still be
-abbrev pub trouble_of : ConnectionEnd → Option Trouble
-trouble_of ends.Memory = Some troubles.Memory
-trouble_of ends.FullArena = Some troubles.FullArena
-trouble_of ends.NoEntry = Some troubles.NoEntry
-trouble_of ends.Removed = Some troubles.Removed
-trouble_of end = None
+abbrev pub stream_error_of : ConnectionEnd → Option StreamError
+stream_error_of ends.Memory = Some stream_errors.Memory
+stream_error_of ends.FullArena = Some stream_errors.FullArena
+stream_error_of ends.NoEntry = Some stream_errors.NoEntry
+stream_error_of ends.Removed = Some stream_errors.Removed
+stream_error_of end = None
 
 -- How a stream ended whose last turn ended so: by that turn's fault; in order, where its client asked for that, with the last work's words after
 -- all that was written; or since its client is gone.
@@ -116,8 +116,8 @@ EndsBy (Ok last) (Err end) before after = end ≡ ends.Client
 
 -- they were taken, up to this position and this seat, however the last one ended, and by that the stream ended
 abbrev pub EndsTurns : {D L : Type 0} → (D → Work → D → Type 0) → ℕ → Work → Result (Unit {0}) ConnectionEnd → D → Standing L → D → ℕ → View → Option (List ℕ) → Type 0
-EndsTurns {D} {L} told place first ended desk old after position seat written =
-    (end : Standing L) × (last : Result Work TurnFault) × TakesTurns told place (Ended last) first desk old after end × (position ≡ end.walsender.sender.position) × (seat ≡ end.seat) × EndsBy last ended end.written written
+EndsTurns {D} {L} told place first ended backend old after position seat written =
+    (end : Standing L) × (last : Result Work TurnFault) × TakesTurns told place (Ended last) first backend old after end × (position ≡ end.walsender.sender.position) × (seat ≡ end.seat) × EndsBy last ended end.written written
 
 -- What a writer took since a stream began, of which nothing had been written: with what is held it is the stream's encoding, of the log that its reader sees.
 abbrev pub WritesStream : {L : Type 0} → Standing L → Standing L → Type 0
@@ -125,8 +125,8 @@ WritesStream old end = (given : List ℕ) × Serves (seen_of end.walsender.reade
 
 -- What a stream leaves of its slot, what was written of it, and by what it ended: all that came was confirmed in its turn. Where the connection is over, so was the last work, after which nothing comes.
 abbrev pub LeavesSlot : {D L : Type 0} → (D → Work → D → Type 0) → ℕ → Work → Result (Unit {0}) ConnectionEnd → D → Standing L → D → View → Option (List ℕ) → Type 0
-LeavesSlot {D} {L} told place first (Ok done) desk old after seat written =
-    (end : Standing L) × (last : Result Work TurnFault) × TakesTurns told place (Ended last) first desk old after end × ∥ WritesStream old end ∥₁ × (seat ≡ end.seat) × EndsBy last (Ok done) end.written written
-LeavesSlot {D} {L} told place first (Err over) desk old after seat written =
-    (end : Standing L) × (last : Result Work TurnFault) × (closed : D) × (work : Work) × TakesTurns told place (Ended last) first desk old closed end × ∥ WritesStream old end ∥₁ × told closed work after
+LeavesSlot {D} {L} told place first (Ok done) backend old after seat written =
+    (end : Standing L) × (last : Result Work TurnFault) × TakesTurns told place (Ended last) first backend old after end × ∥ WritesStream old end ∥₁ × (seat ≡ end.seat) × EndsBy last (Ok done) end.written written
+LeavesSlot {D} {L} told place first (Err over) backend old after seat written =
+    (end : Standing L) × (last : Result Work TurnFault) × (closed : D) × (work : Work) × TakesTurns told place (Ended last) first backend old closed end × ∥ WritesStream old end ∥₁ × told closed work after
     × Confirms work.flushed end.walsender.sender.position place end.seat seat × EndsBy last (Err over) end.written written

@@ -5,19 +5,21 @@ ghost use Rattle.shared_log.specs.Readers.{seen_of};
 ghost use Rattle.wal.specs.Log.{IsWellFormedLog};
 ghost use Rattle.wal.specs.Restart.{restart, restart_place};
 ghost use Rattle.hub.specs.declared.grant.TheConstants.{LIMIT};
+ghost use Rattle.hub.specs.Refusals.{of_read};
 ghost use Rattle.hub.specs.Streams.{HasChunksSet, asked_for};
 ghost use Rattle.slots.specs.Rule.{slot_step, with_step};
 ghost use Rattle.slots.specs.Standings.{held_by};
 ghost use Rattle.slots.specs.declared.step.SlotKind.TheVariants.{Claim, Read};
+ghost use Rattle.slots.specs.declared.table.TheConstants.{END_OF_PLACES};
 
 use crate::demand::ChunksNeeded;
 use chgarena::Arena;
-use commons::Pair;
 use connections::Hold;
 use pqformat::Text;
 use publication::{PubFault, Publications, Selection};
 use replcmd::StreamOptions;
-use shared_log::{LogName, LogReader};
+use server_state::ReaderSeat;
+use shared_log::{LogName, LogReader, ReadFault};
 use slots::{SlotName, SlotTable};
 use std::alloc::Global;
 use walsender::ClaimFault;
@@ -29,7 +31,7 @@ const LIMIT: usize = usize::MAX;
 /// many chunks. Where a stream of the slot found them full, the arena has as many as the log takes, if without what is rolled back
 /// so many would do: so what was rolled back ends no stream for good.
 #[derive(Drop)]
-pub(crate) struct Means<'a> {
+pub(crate) struct StreamParams<'a> {
     pub alloc: Global,
     pub publications: &'a Publications,
     pub names: &'a [Text],
@@ -38,7 +40,7 @@ pub(crate) struct Means<'a> {
     pub was_full: bool,
 }
 
-impl<'a> Means<'a> {
+impl<'a> StreamParams<'a> {
     /// How many chunks the arena has, of a stream that starts there. The reader is left anywhere.
     fn chunks_from<L: LogName>(&self, reader: &mut LogReader<L>, start: u64) -> u32
         ensures least { self.now.chunks ≤ result }
@@ -78,7 +80,7 @@ impl<'a> Means<'a> {
         hold: &mut Hold<L>,
         reader: &mut LogReader<L>,
         position: u64,
-    ) -> Result<Beginning, ClaimFault>
+    ) -> Result<StreamStart, ClaimFault>
         ensures start { IfOk result
             (λ b. (confirmed : ℕ)
             × (hold.new.seat
@@ -103,24 +105,34 @@ impl<'a> Means<'a> {
             return Err(ClaimFault::Memory);
         };
         match reader.resume(start, LIMIT) {
-            Ok(first) => Ok(Beginning {
+            Ok(first) => Ok(StreamStart {
                 selection,
                 start,
                 first,
                 arena,
             }),
-            Err(_) => {
+            Err(fault) => {
                 drop(selection);
                 drop(arena);
-                Err(ClaimFault::NoEntry)
+                Err(claim_fault_of(fault))
             }
         }
     }
 }
 
+/// Why a stream doesn't begin whose reader finds no place.
+fn claim_fault_of(fault: ReadFault) -> ClaimFault
+    ensures { result ≡ of_read fault }
+{
+    match fault {
+        ReadFault::Removed => ClaimFault::Removed,
+        ReadFault::NoEntry | ReadFault::Stale | ReadFault::Memory => ClaimFault::NoEntry,
+    }
+}
+
 /// What a stream begins with, beside its slot and its reader: the fields of its grant.
 #[derive(Drop)]
-struct Beginning {
+struct StreamStart {
     selection: Selection,
     start: u64,
     first: u64,
@@ -148,43 +160,43 @@ pub(crate) struct StreamGrant<L: LogName + SlotName> {
 impl<L: LogName + SlotName> StreamGrant<L> {
     /// Claims the slot at this place for what these names select, and begins at the position, or at a later one that the slot
     /// has confirmed. Its reader goes to where it begins to read for that, in all of the log that it sees. What is refused gives
-    /// the pair back, and the slot is as free as it was.
+    /// the seat back, and the slot is as free as it was.
     pub fn claim(
         slots: &SlotTable<L>,
-        pair: Pair<L>,
+        reader_seat: ReaderSeat<L>,
         place: usize,
-        means: &Means<'_>,
+        params: &StreamParams<'_>,
         position: u64,
-    ) -> Result<Self, (Pair<L>, ClaimFault)>
-        requires { place < 16 }
+    ) -> Result<Self, (ReaderSeat<L>, ClaimFault)>
+        requires { place < END_OF_PLACES }
         ensures hold { IfOk result
             (λ b. (confirmed : ℕ)
             × (b.hold.seat
             ≡ with_step
-            (with_step pair.seat (slot_step Claim place 1 (held_by pair.seat.number)))
+            (with_step reader_seat.seat (slot_step Claim place 1 (held_by reader_seat.seat.number)))
             (slot_step Read place confirmed confirmed))
             × (b.start ≡ max position confirmed)) }
         ensures place { IfOk result (λ b. b.hold.lease.place ≡ place) }
         ensures selection { IfOk result
             (λ b. b.selection
-            ≡ asked_for means.now.publications.now means.now.names.now means.now.options.now) }
+            ≡ asked_for params.now.publications.now params.now.names.now params.now.options.now) }
         ensures arena { IfOk result
-            (λ b. HasChunksSet means.now.chunks means.now.was_full b.arena) }
+            (λ b. HasChunksSet params.now.chunks params.now.was_full b.arena) }
     {
-        let Pair {
+        let ReaderSeat {
             mut reader,
             seat,
             latch,
-        } = pair;
+        } = reader_seat;
         let mut hold = match Hold::claim(slots, seat, place) {
             Ok(hold) => hold,
             Err((seat, fault)) => {
-                return Err((Pair::of(reader, seat, latch), ClaimFault::Slot(fault)));
+                return Err((ReaderSeat::of(reader, seat, latch), ClaimFault::Slot(fault)));
             }
         };
-        match means.begin(slots, &mut hold, &mut reader, position) {
+        match params.begin(slots, &mut hold, &mut reader, position) {
             Ok(
-                Beginning {
+                StreamStart {
                     selection,
                     start,
                     first,
@@ -199,7 +211,7 @@ impl<L: LogName + SlotName> StreamGrant<L> {
                 latch,
                 arena,
             }),
-            Err(fault) => Err((Pair::of(reader, hold.release(slots), latch), fault)),
+            Err(fault) => Err((ReaderSeat::of(reader, hold.release(slots), latch), fault)),
         }
     }
 }

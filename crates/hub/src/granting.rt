@@ -4,33 +4,56 @@ ghost use Rattle.std.specs.Prelude.{◌≡◌};
 ghost use Rattle.hub.specs.Refusals.{ahead_by};
 ghost use Rattle.hub.specs.Streams.{HasLearnt};
 
+use crate::backend::name_of;
 use crate::grant::StreamGrant;
 use crate::new_stream::NewStream;
 use crate::refusals::of_start;
 use crate::starting::HubStart;
 use crate::streaming::Stream;
-use commons::Commons;
-use connections::{Line, SlotPost};
-use server::{DeskFault, StartAhead};
+use connections::{ConnectionMailbox, SlotMonitor};
+use server::{BackendFault, StartAhead};
+use server_state::ServerState;
 use shared_log::LogName;
 use slots::SlotName;
 use std::sync::Wait;
 use walsender::begin;
 
-/// Begins a stream, or answers the first of the refusals in the order of `walsender::begin`; after them, that it would start ahead of
-/// its slot.
+/// Begins a stream, or answers why not: first what its user may not, then the first of the refusals in the order of
+/// `walsender::begin`; after them, that its slot was given up, or that it would start ahead of that.
 pub(crate) fn begin_stream<L: LogName + SlotName, R: Wait>(
     start: &mut HubStart<'_, L, R>,
-) -> Result<NewStream<L>, DeskFault> {
+) -> Result<NewStream<L>, BackendFault> {
+    if let Some(fault) = start.forbidden() {
+        return Err(fault);
+    }
     match begin(start) {
-        Ok(grant) => match ahead_of(start, &grant) {
-            Some(ahead) => {
-                take_back(start.rt, start.commons, grant);
-                Err(DeskFault::StartAhead(ahead))
+        Ok(grant) => match refusal_of(start, &grant) {
+            Some(fault) => {
+                take_back(start.rt, start.server_state, grant);
+                Err(fault)
             }
-            None => opened(start.rt, start.commons, grant),
+            None => opened(start.rt, start.server_state, grant),
         },
         Err(fault) => Err(of_start(fault)),
+    }
+}
+
+/// Why what was granted doesn't begin: the slot is another user's, or was given up, or the stream would start ahead of it.
+fn refusal_of<L: LogName + SlotName, R: Wait>(
+    start: &HubStart<'_, L, R>,
+    grant: &StreamGrant<L>,
+) -> Option<BackendFault> {
+    let monitor = start.server_state.monitor_at(Some(grant.hold.place()))?;
+    // It may be another one than before, of the same name.
+    if !monitor.is_open_to(start.rt, name_of(start.user)) {
+        return Some(BackendFault::NotOwner);
+    }
+    if monitor.is_lost(start.rt) {
+        return Some(BackendFault::SlotLost);
+    }
+    match ahead_of(start, monitor) {
+        Some(ahead) => Some(BackendFault::StartAhead(ahead)),
+        None => None,
     }
 }
 
@@ -38,13 +61,12 @@ pub(crate) fn begin_stream<L: LogName + SlotName, R: Wait>(
 /// let the slot go.
 fn ahead_of<L: LogName + SlotName, R: Wait>(
     start: &HubStart<'_, L, R>,
-    grant: &StreamGrant<L>,
+    monitor: &SlotMonitor,
 ) -> Option<StartAhead> {
-    if start.commons.settings.allows_start_ahead {
+    if start.server_state.settings.allows_start_ahead {
         return None;
     }
-    let post = start.commons.post_at(Some(grant.hold.place()))?;
-    ahead_by(start.position, post.reached(start.rt))
+    ahead_by(start.position, monitor.reached(start.rt))
 }
 
 /// That the start lies ahead of what was reached, if it does.
@@ -60,9 +82,13 @@ fn ahead_by(start: u64, reached: u64) -> Option<StartAhead>
 
 /// What was granted goes back.
 #[inline(never)]
-fn take_back<L: LogName + SlotName, R: Wait>(rt: &R, commons: &Commons<L>, grant: StreamGrant<L>) {
-    let stream = Stream::open(commons.alloc, grant);
-    commons.give_back(rt, stream.end(&commons.slots));
+fn take_back<L: LogName + SlotName, R: Wait>(
+    rt: &R,
+    server_state: &ServerState<L>,
+    grant: StreamGrant<L>,
+) {
+    let stream = Stream::open(server_state.alloc, grant);
+    server_state.give_back(rt, stream.end(&server_state.slots));
 }
 
 /// The stream of a grant, or, where memory is refused, nothing: then what was granted goes back.
@@ -70,17 +96,17 @@ fn take_back<L: LogName + SlotName, R: Wait>(rt: &R, commons: &Commons<L>, grant
 #[inline(never)]
 fn opened<L: LogName + SlotName, R: Wait>(
     rt: &R,
-    commons: &Commons<L>,
+    server_state: &ServerState<L>,
     grant: StreamGrant<L>,
-) -> Result<NewStream<L>, DeskFault> {
-    match NewStream::open(commons.alloc, grant) {
+) -> Result<NewStream<L>, BackendFault> {
+    match NewStream::open(server_state.alloc, grant) {
         Ok(stream) => {
-            commons.count_stream(rt);
+            server_state.count_stream(rt);
             Ok(stream)
         }
         Err(stream) => {
-            commons.give_back(rt, stream.end(&commons.slots));
-            Err(DeskFault::Memory)
+            server_state.give_back(rt, stream.end(&server_state.slots));
+            Err(BackendFault::Memory)
         }
     }
 }
@@ -89,39 +115,39 @@ fn opened<L: LogName + SlotName, R: Wait>(
 #[inline(never)]
 pub(crate) fn end_stream<L: LogName + SlotName, R: Wait>(
     rt: &R,
-    commons: &Commons<L>,
+    server_state: &ServerState<L>,
     stream: Box<Stream<L>>,
 ) {
-    let pair = Box::into_inner(stream).end(&commons.slots);
-    commons.give_back(rt, pair);
+    let reader_seat = Box::into_inner(stream).end(&server_state.slots);
+    server_state.give_back(rt, reader_seat);
 }
 
 /// Waits until a stream or its connection has something to do and it isn't held, and tells the stream of the latest commit.
 pub(crate) fn await_stream<L: LogName + SlotName, R: Wait>(
     rt: &R,
-    commons: &Commons<L>,
-    line: &Line<NewStream<L>>,
-    post: &SlotPost,
+    server_state: &ServerState<L>,
+    mailbox: &ConnectionMailbox<NewStream<L>>,
+    monitor: &SlotMonitor,
     stream: &mut Stream<L>,
 )
     ensures learnt { HasLearnt stream.old.walsender stream.new.walsender }
     ensures hold { stream.new.hold ≡ stream.old.hold }
 {
-    if let Some(latch) = commons.latches.get(stream.latch()) {
+    if let Some(latch) = server_state.latches.get(stream.latch()) {
         latch.wait(rt, stream.position());
     }
-    commons.await_release(rt, line, post, stream.latch());
-    inform(rt, commons, stream);
+    server_state.await_release(rt, mailbox, monitor, stream.latch());
+    inform(rt, server_state, stream);
 }
 
 /// Tells the stream of the latest commit.
 pub(crate) fn inform<L: LogName + SlotName, R: Wait>(
     rt: &R,
-    commons: &Commons<L>,
+    server_state: &ServerState<L>,
     stream: &mut Stream<L>,
 )
     ensures learnt { HasLearnt stream.old.walsender stream.new.walsender }
     ensures hold { stream.new.hold ≡ stream.old.hold }
 {
-    stream.learn(&*commons.notice.lock(rt));
+    stream.learn(&*server_state.notice.lock(rt));
 }

@@ -1,10 +1,13 @@
 //! What the connections of a publisher are served from, for whoever runs it.
 
-ghost use Rattle.std.specs.Prelude.{◌≡◌, IfOk, vec_len};
-ghost use Rattle.commons.specs.Ending.{HasBegun};
-ghost use Rattle.commons.specs.Notices.{IsWoken};
+ghost use Rattle.std.specs.Prelude.{◌≡◌, IfOk, IfSome, None, vec_len};
+ghost use Rattle.server_state.specs.Ending.{HasBegun};
+ghost use Rattle.server_state.specs.Notices.{IsWoken};
+ghost use Rattle.txlog.specs.Giving.{GivesBack};
 
-use commons::{Commons, HubFault, HubStatus, OpenedHub, SteerFault, Transaction, Woken};
+use authentication::User;
+use pqformat::Items;
+use server_state::{HubBuilder, HubFault, HubStatus, ServerState, SteerFault, Transaction, Woken};
 use shared_log::LogName;
 use slots::SlotName;
 use std::alloc::{AllocError, Global};
@@ -14,32 +17,32 @@ use txlog::{Publisher, Receipt, SessionFault};
 
 /// What the connections of a publisher share: its log and rows, its slots, its publications, and what commits and notes tell.
 ///
-/// `OpenedHub::new` and `Hub::open` make one, and `serve` serves connections from it. It isn't `Drop`: `close` ends it.
+/// `HubBuilder::new` and `Hub::open` make one, and `serve` serves connections from it. It isn't `Drop`: `close` ends it.
 pub struct Hub<L: LogName + SlotName> {
-    pub(crate) commons: Commons<L>,
+    pub(crate) server_state: ServerState<L>,
 }
 
 impl<L: LogName + SlotName> Hub<L> {
     /// A hub with an empty log and no slots. Where memory is refused, nothing is left of it.
-    pub fn open<R: Wait>(rt: &R, opened: OpenedHub) -> Result<Self, HubFault>
+    pub fn open<R: Wait>(rt: &R, opened: HubBuilder) -> Result<Self, HubFault>
         requires log { opened.log.history.seen.book ≡ L.book }
         requires slots { opened.slots.first.table_id ≡ L.table }
     {
-        match Commons::open(rt, opened) {
-            Ok(commons) => Ok(Hub { commons }),
+        match ServerState::open(rt, opened) {
+            Ok(server_state) => Ok(Hub { server_state }),
             Err(fault) => Err(fault),
         }
     }
 
     /// Ends the log. Transactions in progress are left as they are.
     pub fn close<R: Wait>(self, rt: &R) {
-        let Hub { commons } = self;
-        commons.close(rt);
+        let Hub { server_state } = self;
+        server_state.close(rt);
     }
 
     /// Where its memory comes from.
     pub fn alloc(&self) -> Global {
-        self.commons.alloc
+        self.server_state.alloc
     }
 
     // ---- what is written
@@ -47,22 +50,32 @@ impl<L: LogName + SlotName> Hub<L> {
     /// What sessions call, one thread at a time. Each receipt of a commit goes to `tell`, and where the log ends after a note or an
     /// abort to `tell_end`.
     pub fn publisher(&self) -> &Mutex<Publisher<L>> {
-        &self.commons.publisher
+        &self.server_state.publisher
+    }
+
+    /// Gives the records back that no slot, no stream and no transaction in progress needs, where many have come since that was done
+    /// last, or the log has no room. A `transaction` and a `note` do so first; who has the publisher's lock calls it before it writes.
+    /// Answers the position for which the log is kept, if it was looked.
+    pub fn make_room<R: Wait>(&self, rt: &R, publisher: &mut Publisher<L>) -> Option<u64>
+        ensures gives { IfSome result (λ least. GivesBack least publisher.old publisher.new) }
+        ensures none { result ≡ None → publisher.new ≡ publisher.old }
+    {
+        self.server_state.make_room(rt, publisher)
     }
 
     /// A commit leaves its receipt: streams read on up to it, at least.
     pub fn tell<R: Wait>(&self, rt: &R, receipt: Receipt<L>) -> Woken
-        ensures { IsWoken (vec_len self.now.commons.latches) receipt.end result }
+        ensures { IsWoken (vec_len self.now.server_state.latches) receipt.end result }
     {
-        self.commons.tell(rt, receipt)
+        self.server_state.tell(rt, receipt)
     }
 
     /// A note or an abort leaves where the log ended right after it, and no receipt: streams read on up to there, at least, so that
     /// their clients can confirm it.
     pub fn tell_end<R: Wait>(&self, rt: &R, end: u64) -> Woken
-        ensures { IsWoken (vec_len self.now.commons.latches) end result }
+        ensures { IsWoken (vec_len self.now.server_state.latches) end result }
     {
-        self.commons.tell_end(rt, end)
+        self.server_state.tell_end(rt, end)
     }
 
     /// Begins a transaction, once no other is in progress by this way.
@@ -72,7 +85,7 @@ impl<L: LogName + SlotName> Hub<L> {
     ) -> Result<Transaction<'h, L, R>, SessionFault>
         ensures { IfOk result HasBegun }
     {
-        self.commons.transaction(rt)
+        self.server_state.transaction(rt)
     }
 
     /// Writes a message outside of all transactions, and answers the position where its record starts. S13, S6, S7, S11 in this
@@ -80,7 +93,14 @@ impl<L: LogName + SlotName> Hub<L> {
     ///
     /// It waits until no `Transaction` is in progress, so a thread that has one ends it first.
     pub fn note<R: Wait>(&self, rt: &R, prefix: &str, content: &[u8]) -> Result<u64, SessionFault> {
-        self.commons.note(rt, prefix, content)
+        self.server_state.note(rt, prefix, content)
+    }
+
+    // ---- who may connect
+
+    /// From now on these users may connect by their passwords. False: no passwords are asked.
+    pub fn replace_users<R: Wait>(&self, rt: &R, users: Items<User>) -> bool {
+        self.server_state.replace_users(rt, users)
     }
 
     // ---- what runs
@@ -88,17 +108,17 @@ impl<L: LogName + SlotName> Hub<L> {
     /// Waits until so many streams have begun since the hub was opened, or `end_awaiting` was called. What is committed then
     /// reaches those streams.
     pub fn await_streams<R: Wait>(&self, rt: &R, count: u64) {
-        self.commons.await_streams(rt, count);
+        self.server_state.await_streams(rt, count);
     }
 
     /// Nobody awaits streams from now on, since no more connections come.
     pub fn end_awaiting<R: Wait>(&self, rt: &R) {
-        self.commons.end_awaiting(rt);
+        self.server_state.end_awaiting(rt);
     }
 
     /// What is served now. The parts are looked at one after the other, so connections may have gone on in between.
     pub fn status<R: Wait + Clock>(&self, rt: &R) -> Result<HubStatus, AllocError> {
-        self.commons.status(rt)
+        self.server_state.status(rt)
     }
 
     // ---- how streams are steered on purpose, as tests of their clients need it
@@ -112,7 +132,8 @@ impl<L: LogName + SlotName> Hub<L> {
         position: u64,
         patience: Duration,
     ) -> Result<bool, SteerFault> {
-        self.commons.await_confirmed(rt, slot, position, patience)
+        self.server_state
+            .await_confirmed(rt, slot, position, patience)
     }
 
     /// The same until a stream of the slot runs.
@@ -122,29 +143,29 @@ impl<L: LogName + SlotName> Hub<L> {
         slot: &str,
         patience: Duration,
     ) -> Result<bool, SteerFault> {
-        self.commons.await_stream(rt, slot, patience)
+        self.server_state.await_stream(rt, slot, patience)
     }
 
     /// Nothing of the slot's stream is written any more, nor of those that come, until it is let go; statuses are read all the same.
     /// L1.
     pub fn hold_stream<R: Wait>(&self, rt: &R, slot: &str) -> Result<(), SteerFault> {
-        self.commons.hold_stream(rt, slot)
+        self.server_state.hold_stream(rt, slot)
     }
 
     /// The slot's stream goes on. L1.
     pub fn resume_stream<R: Wait>(&self, rt: &R, slot: &str) -> Result<(), SteerFault> {
-        self.commons.resume_stream(rt, slot)
+        self.server_state.resume_stream(rt, slot)
     }
 
     /// A keepalive asks the client of the slot's stream for an answer: at once, or as its next stream begins. L1.
     pub fn ask_stream<R: Wait>(&self, rt: &R, slot: &str) -> Result<(), SteerFault> {
-        self.commons.ask_stream(rt, slot)
+        self.server_state.ask_stream(rt, slot)
     }
 
     /// Cuts the connection of the slot's stream, or of its next one, after so many more bytes: in the middle of a frame, where they
     /// end in one. After none it is cut at once, between two frames. The stream after that isn't cut. L1.
     pub fn cut_stream<R: Wait>(&self, rt: &R, slot: &str, bytes: u64) -> Result<(), SteerFault> {
-        self.commons.cut_stream(rt, slot, bytes)
+        self.server_state.cut_stream(rt, slot, bytes)
     }
 
     // ---- how the server ends
@@ -153,21 +174,21 @@ impl<L: LogName + SlotName> Hub<L> {
     /// then its connection is closed, and each other one at once. `serve` returns once its listener gave one more socket and all
     /// connections have ended.
     pub fn shut_down<R: Wait>(&self, rt: &R) {
-        self.commons.shut_down(rt);
+        self.server_state.shut_down(rt);
     }
 
     /// Whether `shut_down` was called.
     pub fn is_ending(&self) -> bool {
-        self.commons.is_ending()
+        self.server_state.is_ending()
     }
 
     /// Whether no connection is served.
     pub fn is_deserted<R: Wait>(&self, rt: &R) -> bool {
-        self.commons.is_deserted(rt)
+        self.server_state.is_deserted(rt)
     }
 
     /// Closes the connections that are served, whatever is still held for them.
     pub fn cut_off<R: Wait>(&self, rt: &R) {
-        self.commons.cut_off(rt);
+        self.server_state.cut_off(rt);
     }
 }

@@ -1,9 +1,16 @@
 //! A publisher that many connections are served from: what they share, and two threads for each. Its rules are told in
 //! docs/SERVING.md.
+//!
+//! `serve` takes connections from a listener (`serving.rt`). The reading thread of each (`read_loop.rt`) turns bytes into words
+//! over a `HubBackend`; its writing thread (`write_loop.rt`) sends these and the stream, whose turns `stream_loop.rt` takes. A
+//! START goes through `starting.rt` and `granting.rt`.
+//!
+//! Read `hub.rt`, `serving.rt`, `read_loop.rt`, `write_loop.rt`, then `stream_loop.rt`, which has the contract that README's
+//! promise stands on: what a connection writes of its stream is one encoding of what the log publishes (`write_stream`: `slot`).
 #![tactic(auto)]
 
+mod backend;
 mod demand;
-mod desk;
 mod grant;
 mod granting;
 mod hub;
@@ -12,17 +19,19 @@ mod read_loop;
 mod refusals;
 mod serving;
 mod starting;
-mod stream_desk;
+mod stream_backend;
 mod stream_loop;
 mod streaming;
-mod work_desk;
+mod work_backend;
 mod write_loop;
 
-pub use commons::{
-    EndFault, HubFault, HubSettings, HubStatus, OpenedHub, Savepoint, ServeFault, SlotStatus,
-    SteerFault, Transaction, Woken,
+pub use connections::{
+    AcceptError, ConnectionEnd, NoopObserver, RefusedCommand, ServerObserver, Unserved,
 };
-pub use connections::{ConnectionEnd, Gate, OpenGate, RefusedCommand, Unserved, Untaken};
 pub use hub::Hub;
 pub use server::Refusal;
+pub use server_state::{
+    EndFault, HubBuilder, HubFault, HubSettings, HubStatus, Savepoint, ServeFault, SlotStatus,
+    SteerFault, Transaction, Woken,
+};
 pub use serving::serve;

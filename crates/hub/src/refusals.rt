@@ -1,22 +1,23 @@
-//! Why a stream doesn't begin, as a desk tells it.
+//! Why a stream doesn't begin, as a backend tells it.
 
 ghost use Rattle.std.specs.Prelude.{◌≡◌};
 ghost use Rattle.hub.specs.Refusals.{of_start};
 
-use commons::{of_publications, of_slot};
-use server::DeskFault;
+use server::BackendFault;
+use server_state::{of_publications, of_slot};
 use walsender::{ClaimFault, StartFault};
 
 /// Why a stream doesn't begin.
-pub(crate) fn of_start(fault: StartFault) -> DeskFault
+pub(crate) fn of_start(fault: StartFault) -> BackendFault
     ensures { result ≡ of_start fault }
 {
     match fault {
-        StartFault::NoSlot => DeskFault::SlotMissing,
+        StartFault::NoSlot => BackendFault::SlotMissing,
         StartFault::Publication(fault) => of_publications(fault),
-        StartFault::NoReader => DeskFault::NoReader,
+        StartFault::NoReader => BackendFault::NoReader,
         StartFault::Claim(ClaimFault::Slot(fault)) => of_slot(fault),
-        StartFault::Claim(ClaimFault::NoEntry) => DeskFault::NoReader,
-        StartFault::Claim(ClaimFault::Memory) => DeskFault::Memory,
+        StartFault::Claim(ClaimFault::NoEntry) => BackendFault::NoReader,
+        StartFault::Claim(ClaimFault::Removed) => BackendFault::SlotLost,
+        StartFault::Claim(ClaimFault::Memory) => BackendFault::Memory,
     }
 }

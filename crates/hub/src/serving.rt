@@ -5,11 +5,12 @@ use crate::hub::Hub;
 use crate::new_stream::NewStream;
 use crate::read_loop::{ReadLoop, read_line};
 use crate::write_loop::{WriteLoop, write_line};
-use commons::{Commons, Place, ServeFault};
-use connections::{Arrival, ConnectionEnd, Gate, Line, Unserved};
+use connections::{Arrival, ConnectionEnd, ConnectionMailbox, ServerObserver, Unserved};
+use server_state::{Place, ServeFault, ServerState};
 use shared_log::LogName;
 use slots::SlotName;
 use std::net::{Shutdown, TcpListener, TcpStream};
+use std::random::RandomSource;
 use std::sync::Wait;
 use std::thread;
 use std::thread::Threads;
@@ -19,9 +20,9 @@ use std::time::Clock;
 /// thread. It returns when all of them have ended.
 ///
 /// A connection counts once both of its threads run. One that can't have them, or comes where `max_connections` are served, is
-/// told so (53300) and closed, and the gate is told why; so it is where the listener can't give one for now. Then the next is
+/// told so (53300) and closed, and the observer is told why; so it is where the listener can't give one for now. Then the next is
 /// taken. One too many is heard out by a thread of its own before it is told, as long as few are. A failed read or write ends its
-/// connection alone, and the gate is told how each has ended. An error means that the listener gives no more; it is answered once
+/// connection alone, and the observer is told how each has ended. An error means that the listener gives no more; it is answered once
 /// the connections that were taken have ended. After `Hub::shut_down` none is taken, and the next that comes is closed without a
 /// word.
 pub fn serve<L, G, R>(
@@ -29,30 +30,35 @@ pub fn serve<L, G, R>(
     listener: &TcpListener,
     hub: &Hub<L>,
     connections: u32,
-    gate: &G,
+    observer: &G,
 ) -> Result<(), ServeFault>
 where
     L: LogName + SlotName + Send + Sync,
-    G: Gate + Sync,
-    R: Threads + Wait + Clock + Sync,
+    G: ServerObserver + Sync,
+    R: Threads + Wait + Clock + RandomSource + Sync,
 {
-    let commons = &hub.commons;
+    let server_state = &hub.server_state;
     let arrival = Arrival::new();
     let shared = &arrival;
     thread::scope(thread::scope_env(), rt, |scope| {
         let mut ended = Ok(());
         let mut taken = Taken::nobody();
         for _ in rt.forever() {
-            if connections <= taken.served || commons.is_ending() {
+            if connections <= taken.served || server_state.is_ending() {
                 break;
             }
-            match commons.arrives(rt, listener, gate, shared) {
+            match server_state.arrives(rt, listener, observer, shared) {
                 Ok(Some(place)) => {
                     let number = taken.next(place);
                     let spawned = scope.spawn(move || connect(
-                        rt, commons, gate, place, number, shared,
+                        rt,
+                        server_state,
+                        observer,
+                        place,
+                        number,
+                        shared,
                     ));
-                    if commons.has_threads(rt, gate, shared, place, spawned.is_ok()) {
+                    if server_state.has_threads(rt, observer, shared, place, spawned.is_ok()) {
                         taken.count(place);
                     }
                 }
@@ -63,7 +69,7 @@ where
                 }
             }
         }
-        commons.end_crowd(rt);
+        server_state.end_crowd(rt);
         ended
     })
 }
@@ -104,31 +110,37 @@ impl Taken {
 /// Serves the connection that arrived, or turns it away, and closes its socket. Where it can't be served, it goes back.
 fn connect<L, G, R>(
     rt: &R,
-    commons: &Commons<L>,
-    gate: &G,
+    server_state: &ServerState<L>,
+    observer: &G,
     place: Place,
     number: u32,
     arrival: &Arrival,
 )
 where
     L: LogName + SlotName + Send + Sync,
-    G: Gate + Sync,
-    R: Threads + Wait + Clock + Sync,
+    G: ServerObserver + Sync,
+    R: Threads + Wait + Clock + RandomSource + Sync,
 {
     match place {
-        Place::Served => serve_one(rt, commons, gate, number, arrival),
-        Place::Crowd => commons.turn_away(rt, gate, number, arrival),
+        Place::Served => serve_one(rt, server_state, observer, number, arrival),
+        Place::Crowd => server_state.turn_away(rt, observer, number, arrival),
     }
 }
 
-fn serve_one<L, G, R>(rt: &R, commons: &Commons<L>, gate: &G, number: u32, arrival: &Arrival)
+fn serve_one<L, G, R>(
+    rt: &R,
+    server_state: &ServerState<L>,
+    observer: &G,
+    number: u32,
+    arrival: &Arrival,
+)
 where
     L: LogName + SlotName + Send + Sync,
-    G: Gate + Sync,
-    R: Threads + Wait + Clock + Sync,
+    G: ServerObserver + Sync,
+    R: Threads + Wait + Clock + RandomSource + Sync,
 {
     if let Some(socket) = arrival.take(rt) {
-        if let Err(why) = serve_to_end(rt, commons, gate, number, arrival, &socket) {
+        if let Err(why) = serve_to_end(rt, server_state, observer, number, arrival, &socket) {
             arrival.give_back(rt, socket, why);
         }
     }
@@ -137,39 +149,47 @@ where
 /// Serves a connection to its end, or answers why it can't be served.
 fn serve_to_end<L, G, R>(
     rt: &R,
-    commons: &Commons<L>,
-    gate: &G,
+    server_state: &ServerState<L>,
+    observer: &G,
     number: u32,
     arrival: &Arrival,
     socket: &TcpStream,
 ) -> Result<(), Unserved>
 where
     L: LogName + SlotName + Send + Sync,
-    G: Gate + Sync,
-    R: Threads + Wait + Clock + Sync,
+    G: ServerObserver + Sync,
+    R: Threads + Wait + Clock + RandomSource + Sync,
 {
-    commons.sockets.enter(rt, number, socket)?;
-    let line = Line::new(commons.alloc);
-    let read = both(rt, commons, gate, number, arrival, &line, socket);
-    commons.sockets.leave(rt, number);
-    let early = end_line(rt, commons, line);
+    server_state.sockets.enter(rt, number, socket)?;
+    let mailbox = ConnectionMailbox::new(server_state.alloc);
+    let read = both(
+        rt,
+        server_state,
+        observer,
+        number,
+        arrival,
+        &mailbox,
+        socket,
+    );
+    server_state.sockets.leave(rt, number);
+    let early = end_mailbox(rt, server_state, mailbox);
     let Some(end) = read else {
         return Err(Unserved::Thread);
     };
-    commons.dismiss();
-    gate.ended(number, why(early, end));
+    server_state.dismiss();
+    observer.ended(number, why(early, end));
     Ok(())
 }
 
 /// Ends a line with the stream that was never written, and answers why no more could be written, if it could not.
-fn end_line<L: LogName + SlotName, R: Wait>(
+fn end_mailbox<L: LogName + SlotName, R: Wait>(
     rt: &R,
-    commons: &Commons<L>,
-    line: Line<NewStream<L>>,
+    server_state: &ServerState<L>,
+    mailbox: ConnectionMailbox<NewStream<L>>,
 ) -> Option<ConnectionEnd> {
-    let (unwritten, early) = line.end();
+    let (unwritten, early) = mailbox.end();
     if let Some(unwritten) = unwritten {
-        end_stream(rt, commons, unwritten.begin());
+        end_stream(rt, server_state, unwritten.begin());
     }
     early
 }
@@ -185,44 +205,44 @@ fn why(early: Option<ConnectionEnd>, read: ConnectionEnd) -> ConnectionEnd {
 /// Serves a connection by this thread and another, and answers why that ended. None: there is no other.
 fn both<L, G, R>(
     rt: &R,
-    commons: &Commons<L>,
-    gate: &G,
+    server_state: &ServerState<L>,
+    observer: &G,
     number: u32,
     arrival: &Arrival,
-    line: &Line<NewStream<L>>,
+    mailbox: &ConnectionMailbox<NewStream<L>>,
     socket: &TcpStream,
 ) -> Option<ConnectionEnd>
 where
     L: LogName + SlotName + Send + Sync,
-    G: Gate + Sync,
-    R: Threads + Wait + Clock + Sync,
+    G: ServerObserver + Sync,
+    R: Threads + Wait + Clock + RandomSource + Sync,
 {
     thread::scope(thread::scope_env(), rt, |scope| {
-        let spawned = scope.spawn(|| write(rt, commons, line, gate, number, socket));
+        let spawned = scope.spawn(|| write(rt, server_state, mailbox, observer, number, socket));
         if spawned.is_err() {
             return None;
         }
         arrival.settle(rt);
-        gate.begun(number, socket.peer_addr().ok());
-        Some(read(rt, commons, line, gate, number, socket))
+        observer.begun(number, socket.peer_addr().ok());
+        Some(read(rt, server_state, mailbox, observer, number, socket))
     })
 }
 
 /// Reads until the connection is over, and answers why. Where its client was silent for too long, or its startup took too long, the
 /// socket is closed, so that the writing thread doesn't wait in it.
-fn read<L: LogName + SlotName, G: Gate, R: Wait + Clock>(
+fn read<L: LogName + SlotName, G: ServerObserver, R: Wait + Clock + RandomSource>(
     rt: &R,
-    commons: &Commons<L>,
-    line: &Line<NewStream<L>>,
-    gate: &G,
+    server_state: &ServerState<L>,
+    mailbox: &ConnectionMailbox<NewStream<L>>,
+    observer: &G,
     number: u32,
     socket: &TcpStream,
 ) -> ConnectionEnd {
     let read = ReadLoop {
         rt,
-        commons,
-        line,
-        gate,
+        server_state,
+        mailbox,
+        observer,
         number,
         socket,
     };
@@ -233,20 +253,20 @@ fn read<L: LogName + SlotName, G: Gate, R: Wait + Clock>(
     end
 }
 
-fn write<L: LogName + SlotName, R: Wait + Clock, G: Gate>(
+fn write<L: LogName + SlotName, R: Wait + Clock, G: ServerObserver>(
     rt: &R,
-    commons: &Commons<L>,
-    line: &Line<NewStream<L>>,
-    gate: &G,
+    server_state: &ServerState<L>,
+    mailbox: &ConnectionMailbox<NewStream<L>>,
+    observer: &G,
     number: u32,
     socket: &TcpStream,
 ) {
     let write = WriteLoop {
         rt,
-        commons,
-        line,
+        server_state,
+        mailbox,
         socket,
-        gate,
+        observer,
         number,
     };
     write_line(&write);

@@ -5,11 +5,11 @@ ghost use Rattle.shared_log.specs.Readers.{seen_of};
 ghost use Rattle.walsender.specs.Serving.{Serves};
 ghost use Rattle.std.specs.Io.KnownBytes.{Appends};
 ghost use Rattle.hub.specs.Streams.{StreamsOn, WordsBehind, words_of};
-ghost use Rattle.hub.specs.Turns.{Ended, EndsBy, EndsTurns, LeavesSlot, TakesTurns, end_of_fault, standing, trouble_of};
+ghost use Rattle.hub.specs.Turns.{Ended, EndsBy, EndsTurns, LeavesSlot, TakesTurns, end_of_fault, standing, stream_error_of};
 
 use crate::streaming::Stream;
-use crate::work_desk::WorkDesk;
-use connections::{ConnectionEnd, Trouble, Work, write_trouble};
+use crate::work_backend::WorkBackend;
+use connections::{ConnectionEnd, StreamError, Work, write_stream_error};
 use server::Phase;
 use shared_log::LogName;
 use slots::{SlotName, SlotTable};
@@ -20,42 +20,42 @@ use walsender::{SendFault, TurnFault};
 
 /// Writes a stream, and after it what is said at its end. Where its client did not ask for that, the connection is over, and
 /// what the client flushed last is confirmed too: all that it sent has been read by then.
-pub(crate) fn write_stream<L: LogName + SlotName, R: Wait, D: WorkDesk<L>, W: Write>(
+pub(crate) fn write_stream<L: LogName + SlotName, R: Wait, D: WorkBackend<L>, W: Write>(
     rt: &R,
-    desk: &mut D,
+    backend: &mut D,
     slots: &SlotTable<L>,
     stream: &mut Stream<L>,
     first: Work,
     to: &mut W,
 ) -> Result<(), ConnectionEnd>
     requires { ∥ Serves (seen_of stream.old.walsender.reader) [] stream.old.walsender ∥₁ }
-    ensures slot { LeavesSlot D.told stream.old.hold.lease.place first result desk.old
-        (standing stream.old.walsender stream.old.hold.seat (W.contents to.old)) desk.new
+    ensures slot { LeavesSlot D.told stream.old.hold.lease.place first result backend.old
+        (standing stream.old.walsender stream.old.hold.seat (W.contents to.old)) backend.new
         stream.new.hold.seat (W.contents to.new) }
 {
-    let ended = write_to_end(rt, desk, slots, stream, first, to);
+    let ended = write_to_end(rt, backend, slots, stream, first, to);
     if ended.is_err() {
-        let last = desk.last();
+        let last = backend.last();
         stream.confirm_any(slots, last.flushed);
     }
     ended
 }
 
 /// Writes a stream, and after it what is said at its end, or why it ends.
-fn write_to_end<L: LogName + SlotName, R: Wait, D: WorkDesk<L>, W: Write>(
+fn write_to_end<L: LogName + SlotName, R: Wait, D: WorkBackend<L>, W: Write>(
     rt: &R,
-    desk: &mut D,
+    backend: &mut D,
     slots: &SlotTable<L>,
     stream: &mut Stream<L>,
     first: Work,
     to: &mut W,
 ) -> Result<(), ConnectionEnd>
-    ensures turns { EndsTurns D.told stream.old.hold.lease.place first result desk.old
-        (standing stream.old.walsender stream.old.hold.seat (W.contents to.old)) desk.new
+    ensures turns { EndsTurns D.told stream.old.hold.lease.place first result backend.old
+        (standing stream.old.walsender stream.old.hold.seat (W.contents to.old)) backend.new
         stream.new.walsender.sender.position stream.new.hold.seat (W.contents to.new) }
     ensures lease { stream.new.hold.lease ≡ stream.old.hold.lease }
 {
-    let last = run(rt, desk, slots, stream, first, to);
+    let last = run(rt, backend, slots, stream, first, to);
     finish(stream, last, to)
 }
 
@@ -87,9 +87,9 @@ fn finish<L: LogName + SlotName, W: Write>(
 }
 
 /// Takes turns of a stream until something else is to be said than the stream, and answers that.
-fn run<L: LogName + SlotName, R: Wait, D: WorkDesk<L>, W: Write>(
+fn run<L: LogName + SlotName, R: Wait, D: WorkBackend<L>, W: Write>(
     rt: &R,
-    desk: &mut D,
+    backend: &mut D,
     slots: &SlotTable<L>,
     stream: &mut Stream<L>,
     first: Work,
@@ -97,8 +97,8 @@ fn run<L: LogName + SlotName, R: Wait, D: WorkDesk<L>, W: Write>(
 ) -> Result<Work, TurnFault>
     ensures serves { StreamsOn stream.old.walsender stream.new.walsender (W.contents to.old)
         (W.contents to.new) }
-    ensures turns { TakesTurns D.told stream.old.hold.lease.place (Ended result) first desk.old
-        (standing stream.old.walsender stream.old.hold.seat (W.contents to.old)) desk.new
+    ensures turns { TakesTurns D.told stream.old.hold.lease.place (Ended result) first backend.old
+        (standing stream.old.walsender stream.old.hold.seat (W.contents to.old)) backend.new
         (standing stream.new.walsender stream.new.hold.seat (W.contents to.new)) }
     ensures lease { stream.new.hold.lease ≡ stream.old.hold.lease }
 {
@@ -108,7 +108,7 @@ fn run<L: LogName + SlotName, R: Wait, D: WorkDesk<L>, W: Write>(
         if !work.lets_stream() {
             break;
         }
-        work = desk.next(stream);
+        work = backend.next(stream);
         stream.go_on(slots, &work, to)?;
     }
     Ok(work)
@@ -133,15 +133,15 @@ fn tell<L: LogName + SlotName, W: Write>(
     to: &mut W,
 ) -> io::Result<()>
     ensures behind { OnOk result
-        (WordsBehind (words_of (trouble_of end)) stream.old.walsender stream.new.walsender
+        (WordsBehind (words_of (stream_error_of end)) stream.old.walsender stream.new.walsender
         (W.contents to.old) (W.contents to.new)) }
     ensures position { stream.new.walsender.sender.position ≡ stream.old.walsender.sender.position }
     ensures hold { stream.new.hold ≡ stream.old.hold }
 {
-    match trouble_of(end) {
-        Some(trouble) => {
+    match stream_error_of(end) {
+        Some(stream_error) => {
             stream.write_rest(to)?;
-            write_trouble(stream.alloc(), trouble, to)
+            write_stream_error(stream.alloc(), stream_error, to)
         }
         None => Ok(()),
     }
@@ -161,14 +161,14 @@ fn end_of(fault: &TurnFault) -> ConnectionEnd
 }
 
 /// What the client is told, if it can still be.
-fn trouble_of(end: ConnectionEnd) -> Option<Trouble>
-    ensures { result ≡ trouble_of end }
+fn stream_error_of(end: ConnectionEnd) -> Option<StreamError>
+    ensures { result ≡ stream_error_of end }
 {
     match end {
-        ConnectionEnd::Memory => Some(Trouble::Memory),
-        ConnectionEnd::FullArena => Some(Trouble::FullArena),
-        ConnectionEnd::NoEntry => Some(Trouble::NoEntry),
-        ConnectionEnd::Removed => Some(Trouble::Removed),
+        ConnectionEnd::Memory => Some(StreamError::Memory),
+        ConnectionEnd::FullArena => Some(StreamError::FullArena),
+        ConnectionEnd::NoEntry => Some(StreamError::NoEntry),
+        ConnectionEnd::Removed => Some(StreamError::Removed),
         _ => None,
     }
 }

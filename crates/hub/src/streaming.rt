@@ -19,9 +19,9 @@ ghost use Rattle.pgoutput.specs.Items.{keepalive_word};
 
 use crate::demand::ChunksNeeded;
 use crate::grant::StreamGrant;
-use commons::{CommitNotice, Pair};
 use connections::{Hold, Work};
 use server::Phase;
+use server_state::{CommitNotice, ReaderSeat};
 use shared_log::LogName;
 use slots::{SlotName, SlotTable};
 use std::alloc::Global;
@@ -282,14 +282,15 @@ impl<L: LogName + SlotName> Stream<L> {
         self.walsender.write_held(to)
     }
 
-    /// How many chunks the changes take that it reads of the log, where it is over. Its reader is left anywhere.
+    /// How many chunks the changes take that its slot's next stream reads of the log, where it is over. Its reader is left anywhere.
     pub fn chunks_needed(&mut self) -> Option<u32> {
-        let needed = ChunksNeeded::of(self.alloc, &mut self.walsender.reader, self.start)?;
+        let start = self.start.max(self.confirmed);
+        let needed = ChunksNeeded::of(self.alloc, &mut self.walsender.reader, start)?;
         Some(needed.all)
     }
 
     /// Makes the slot free, and gives reader and seat back.
-    pub fn end(self, slots: &SlotTable<L>) -> Pair<L>
+    pub fn end(self, slots: &SlotTable<L>) -> ReaderSeat<L>
         ensures reader { result.reader ≡ self.walsender.reader }
         ensures seat { result.seat
             ≡ with_step self.hold.seat
@@ -306,6 +307,6 @@ impl<L: LogName + SlotName> Stream<L> {
             told: _,
         } = self;
         let (_, reader) = walsender.end();
-        Pair::of(reader, hold.release(slots), latch)
+        ReaderSeat::of(reader, hold.release(slots), latch)
     }
 }

@@ -6,12 +6,14 @@ ghost use Rattle.walsender.specs.Serving.{Serves};
 
 use crate::granting::{end_stream, inform};
 use crate::new_stream::NewStream;
-use crate::stream_desk::{StreamDesk, report};
+use crate::stream_backend::{StreamBackend, report};
 use crate::stream_loop::{say, write_stream};
 use crate::streaming::Stream;
-use commons::Commons;
-use connections::{ConnectionEnd, Gate, Line, Outlet, SlotPost, Tap, Work};
+use connections::{
+    ConnectionEnd, ConnectionMailbox, MeteredWriter, Outlet, ServerObserver, SlotMonitor, Work,
+};
 use server::Phase;
+use server_state::ServerState;
 use shared_log::LogName;
 use slots::SlotName;
 use std::net::{Shutdown, TcpStream};
@@ -20,25 +22,25 @@ use std::time::Clock;
 
 /// What a writing thread is passed.
 #[derive(Drop)]
-pub(crate) struct WriteLoop<'h, L: LogName + SlotName, R: Wait, G: Gate> {
+pub(crate) struct WriteLoop<'h, L: LogName + SlotName, R: Wait, G: ServerObserver> {
     pub rt: &'h R,
-    pub commons: &'h Commons<L>,
-    pub line: &'h Line<NewStream<L>>,
+    pub server_state: &'h ServerState<L>,
+    pub mailbox: &'h ConnectionMailbox<NewStream<L>>,
     pub socket: &'h TcpStream,
-    pub gate: &'h G,
+    pub observer: &'h G,
     /// The connection's number.
     pub number: u32,
 }
 
 /// Writes what is said, and the streams that begin, until the connection is over; then closes it both ways, so that the
 /// reading thread doesn't wait for more.
-pub(crate) fn write_line<L: LogName + SlotName, R: Wait + Clock, G: Gate>(
+pub(crate) fn write_line<L: LogName + SlotName, R: Wait + Clock, G: ServerObserver>(
     write: &WriteLoop<'_, L, R, G>,
 ) {
     for _ in write.rt.forever() {
-        write.line.await_words(write.rt);
+        write.mailbox.await_words(write.rt);
         if let Err(end) = write_step(write) {
-            write.line.end_early(write.rt, end);
+            write.mailbox.end_early(write.rt, end);
             break;
         }
     }
@@ -46,21 +48,21 @@ pub(crate) fn write_line<L: LogName + SlotName, R: Wait + Clock, G: Gate>(
 }
 
 /// Writes what is said, and, if that began a stream, all of the stream.
-fn write_step<L: LogName + SlotName, R: Wait + Clock, G: Gate>(
+fn write_step<L: LogName + SlotName, R: Wait + Clock, G: ServerObserver>(
     write: &WriteLoop<'_, L, R, G>,
 ) -> Result<(), ConnectionEnd> {
-    let mut work = write.line.take(write.rt);
+    let mut work = write.mailbox.take(write.rt);
     say_first(write, &mut work)?;
     let Some(stream) = stream_of(write, &work) else {
         return Ok(());
     };
     write_whole(write, stream, work)?;
-    write.line.end_stream(write.rt);
+    write.mailbox.end_stream(write.rt);
     Ok(())
 }
 
 /// Writes what is said before all else.
-fn say_first<L: LogName + SlotName, R: Wait, G: Gate>(
+fn say_first<L: LogName + SlotName, R: Wait, G: ServerObserver>(
     write: &WriteLoop<'_, L, R, G>,
     work: &mut Work,
 ) -> Result<(), ConnectionEnd> {
@@ -70,53 +72,69 @@ fn say_first<L: LogName + SlotName, R: Wait, G: Gate>(
 }
 
 /// The way to its client.
-fn outlet<'h, L: LogName + SlotName, R: Wait, G: Gate>(
+fn outlet<'h, L: LogName + SlotName, R: Wait, G: ServerObserver>(
     write: &WriteLoop<'h, L, R, G>,
 ) -> Outlet<'h, NewStream<L>, R, &'h TcpStream> {
     Outlet {
         rt: write.rt,
-        line: write.line,
+        mailbox: write.mailbox,
         to: write.socket,
     }
 }
 
 /// The stream that began with what was said, if one did.
-fn stream_of<L: LogName + SlotName, R: Wait, G: Gate>(
+fn stream_of<L: LogName + SlotName, R: Wait, G: ServerObserver>(
     write: &WriteLoop<'_, L, R, G>,
     work: &Work,
 ) -> Option<NewStream<L>> {
     if work.phase == Phase::Idle || work.phase == Phase::Startup {
         return None;
     }
-    write.line.take_stream(write.rt)
+    write.mailbox.take_stream(write.rt)
 }
 
 /// Writes a stream from its beginning, and answers why it could not be written to its end.
-fn write_whole<L: LogName + SlotName, R: Wait + Clock, G: Gate>(
+fn write_whole<L: LogName + SlotName, R: Wait + Clock, G: ServerObserver>(
     write: &WriteLoop<'_, L, R, G>,
     stream: NewStream<L>,
     work: Work,
 ) -> Result<(), ConnectionEnd> {
     let mut stream = stream.begin();
-    let post = write.commons.post_at(Some(stream.place()));
-    let written = match post {
-        Some(post) => write_begun(write, post, &mut stream, work),
+    let monitor = write.server_state.monitor_at(Some(stream.place()));
+    let written = match monitor {
+        Some(monitor) => write_begun(write, monitor, &mut stream, work),
         None => {
             drop(work);
             Err(ConnectionEnd::Lost)
         }
     };
-    end_stream(write.rt, write.commons, stream);
-    match post {
-        Some(post) if post.end(write.rt) => Err(ConnectionEnd::Cut),
-        _ => written,
+    // Before the slot is free, since its next stream is told to the same monitor, also that of a new slot.
+    let on_purpose = match monitor {
+        Some(monitor) => end_on_purpose(write.rt, monitor),
+        None => None,
+    };
+    end_stream(write.rt, write.server_state, stream);
+    match on_purpose {
+        Some(end) => Err(end),
+        None => written,
     }
 }
 
+/// The stream of the slot ends: whether somebody else wanted that.
+fn end_on_purpose<R: Wait>(rt: &R, monitor: &SlotMonitor) -> Option<ConnectionEnd> {
+    if monitor.end(rt) {
+        return Some(ConnectionEnd::Cut);
+    }
+    if monitor.is_lost(rt) {
+        return Some(ConnectionEnd::Removed);
+    }
+    None
+}
+
 /// Writes a stream that has begun, and answers why it could not be written to its end.
-fn write_begun<L: LogName + SlotName, R: Wait + Clock, G: Gate>(
+fn write_begun<L: LogName + SlotName, R: Wait + Clock, G: ServerObserver>(
     write: &WriteLoop<'_, L, R, G>,
-    post: &SlotPost,
+    monitor: &SlotMonitor,
     stream: &mut Stream<L>,
     mut work: Work,
 ) -> Result<(), ConnectionEnd>
@@ -124,41 +142,48 @@ fn write_begun<L: LogName + SlotName, R: Wait + Clock, G: Gate>(
 {
     let WriteLoop {
         rt,
-        commons,
-        line,
+        server_state,
+        mailbox,
         socket,
-        gate,
+        observer,
         number,
     } = *write;
-    post.begin(rt, stream.latch());
-    commons.await_release(rt, line, post, stream.latch());
+    monitor.begin(rt, stream.latch());
+    server_state.await_release(rt, mailbox, monitor, stream.latch());
     // What has woken it may be work, which waits for its first turn.
-    commons.tell_work(rt, stream.latch());
-    inform(rt, commons, stream);
+    server_state.tell_work(rt, stream.latch());
+    inform(rt, server_state, stream);
     // It may have been held for long since the work was taken.
-    work.clock = line.clock(rt);
-    let mut desk = StreamDesk {
+    work.clock = mailbox.clock(rt);
+    let mut backend = StreamBackend {
         write: WriteLoop {
             rt,
-            commons,
-            line,
+            server_state,
+            mailbox,
             socket,
-            gate,
+            observer,
             number,
         },
-        post,
+        monitor,
     };
-    let mut tap = Tap {
+    let mut metered = MeteredWriter {
         rt,
-        post,
+        monitor,
         outlet: outlet(write),
     };
-    let ended = write_stream(rt, &mut desk, &commons.slots, stream, work, &mut tap);
-    report(&desk.write, post, stream);
+    let ended = write_stream(
+        rt,
+        &mut backend,
+        &server_state.slots,
+        stream,
+        work,
+        &mut metered,
+    );
+    report(&backend.write, monitor, stream);
     if ended != Err(ConnectionEnd::FullArena) {
         return ended;
     }
-    post.fill(rt);
+    monitor.fill(rt);
     Err(match stream.chunks_needed() {
         Some(chunks) => ConnectionEnd::TooFewChunks(chunks),
         None => ConnectionEnd::FullArena,
@@ -166,7 +191,9 @@ fn write_begun<L: LogName + SlotName, R: Wait + Clock, G: Gate>(
 }
 
 /// Nothing is written any more, and nothing more comes.
-pub(crate) fn break_off<L: LogName + SlotName, R: Wait, G: Gate>(write: &WriteLoop<'_, L, R, G>) {
-    write.line.break_off(write.rt);
+pub(crate) fn break_off<L: LogName + SlotName, R: Wait, G: ServerObserver>(
+    write: &WriteLoop<'_, L, R, G>,
+) {
+    write.mailbox.break_off(write.rt);
     let _ = write.socket.shutdown(Shutdown::Both);
 }

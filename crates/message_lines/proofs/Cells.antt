@@ -1,4 +1,4 @@
--- A row's values, written one behind the other.
+-- A row's values, written one after the other.
 use Rattle.std.proofs.Common.{◌≡◌, Bool, true, false, List, [], ◌∷◌, ◌++◌, length, refl, sym, ap, ◌∙◌, append_assoc, arith}
 use Rattle.std.specs.Prelude.{if◌then◌else◌}
 use Rattle.pgoutput.specs.declared.relation.Column.{Column}
@@ -19,7 +19,7 @@ first part c cells.Null more = by_told (is_told part c)
     by_told false = refl
 first part c (cells.Text text) more = refl
 
--- a value is written, and all that is left stands behind it
+-- a value is written, and all that is left stands after it
 pub cell_put : (part : Part) (columns more : List Column) (row rest : List Cell) (c : Column) (cell : Cell) (old new whole : List Token)
     → columns ≡ c ∷ more → row ≡ cell ∷ rest → new ≡ old ++ cell_tokens part c cell
     → old ++ items_tokens (cells_items part columns row) ≡ whole → new ++ items_tokens (cells_items part more rest) ≡ whole

@@ -1,3 +1,4 @@
+pub mod HexMarks
 pub mod Numerals
 pub mod Contents
 pub mod Cells

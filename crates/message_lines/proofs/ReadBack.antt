@@ -22,8 +22,8 @@ use Rattle.json.proofs.Printed.Trees.{document-print}
 use Rattle.message_lines.specs.declared.part.Part.{Part}
 use Rattle.message_lines.specs.declared.part.Part.TheVariants.{Whole, Key}
 use Rattle.message_lines.specs.Line.{text_of}
-use Rattle.message_lines.specs.Kinds.{is_integer, kind_name, kind_json}
-use Rattle.message_lines.specs.Values.{is_numeral, is_whole_number, truth_of, truth_or_text, value_json}
+use Rattle.message_lines.specs.Kinds.{is_number, kind_name, kind_json}
+use Rattle.message_lines.specs.Values.{is_no_number, is_numeral, is_told_number, told_text, truth_of, truth_or_text, value_json}
 use Rattle.message_lines.specs.Rows.{AreKinds, column_json, is_told, with_cell, cells_items}
 use Rattle.message_lines.specs.Changes.{delete_json, insert_json, old_json, old_members, truncate_json, update_json}
 use Rattle.message_lines.specs.Marks.{begin_json, commit_json, message_json, summary_json}
@@ -41,12 +41,16 @@ truth_or_text_plain (Some b) text = record { numbers = tt; flat = omega arith }
 truth_or_text_plain None text = record { numbers = tt; flat = omega arith }
 
 value_plain : (kind : ℕ) (text : List ℕ) → Plain (value_json kind text)
-unfolding value_json is_whole_number
-value_plain kind text = by_test (is_integer kind && is_numeral text) refl
+unfolding value_json is_told_number
+value_plain kind text = by_test (is_number kind && is_numeral text) refl
   where
-    by_test : (b : Bool) → (is_integer kind && is_numeral text) ≡ b → Plain (if b then number text else truth_or_text (truth_of kind text) text)
-    by_test true is = record { numbers = numeral_is text (and_parts (is_integer kind) (is_numeral text) is).1; flat = omega arith }
-    by_test false is = truth_or_text_plain (truth_of kind text) text
+    by_word : (b : Bool) → Plain (if b then null else truth_or_text (truth_of kind text) (told_text kind text))
+    by_word true = record { numbers = tt; flat = omega arith }
+    by_word false = truth_or_text_plain (truth_of kind text) (told_text kind text)
+
+    by_test : (b : Bool) → (is_number kind && is_numeral text) ≡ b → Plain (if b then number text else (if is_no_number kind text then null else truth_or_text (truth_of kind text) (told_text kind text)))
+    by_test true is = record { numbers = numeral_is text (and_parts (is_number kind) (is_numeral text) is).1; flat = omega arith }
+    by_test false is = by_word (is_no_number kind text)
 
 kind_plain : (o : Option (List ℕ)) (kind : ℕ) → kind < 2 ^ 32 → Plain (kind_json o kind)
 kind_plain (Some name) kind lt = record { numbers = tt; flat = omega arith }
@@ -58,11 +62,11 @@ record Flat (js : Items) : Type 0 where
   flat : items_depth js ≤ 1
 
 column_numbers : (c : Column) (j : Json) → c.kind < 2 ^ 32 → Plain j → HasNumbers (column_json c j)
-column_numbers c j lt plain = (tt, ((kind_plain (kind_name c.kind) c.kind lt).numbers, (plain.numbers, tt)))
+column_numbers c j lt plain = (tt, ((kind_plain (kind_name c.kind c.modifier) c.kind lt).numbers, (plain.numbers, tt)))
 
 column_flat : (c : Column) (j : Json) → c.kind < 2 ^ 32 → Plain j → depth (column_json c j) ≤ 1
 column_flat c j lt plain =
-    let kind = (kind_plain (kind_name c.kind) c.kind lt).flat in
+    let kind = (kind_plain (kind_name c.kind c.modifier) c.kind lt).flat in
     let value = plain.flat in
     omega (arith, kind, value)
 

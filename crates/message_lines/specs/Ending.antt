@@ -1,4 +1,4 @@
--- Which lines end a transaction, or are a note, and where in the log a follower goes on behind them.
+-- Which lines end a transaction, or are a note, and where in the log a follower goes on after them.
 use Rattle.std.specs.Prelude.{ℕ, ◌+◌, ◌-◌, ◌^◌, ◌==◌, Bool, false, not, List, Option, Some, None, option_and_then, codes, if◌then◌else◌}
 use Rattle.std.specs.Str.{bytes_eq}
 use Rattle.json.specs.Find.{get, as_str, as_bool}
@@ -19,7 +19,7 @@ is_false (Some b) = not b
 abbrev pub is_note : Json → Bool
 is_note j = is_false (option_and_then as_bool (get (codes "transactional") j))
 
--- behind the start of a record, and within it
+-- after the start of a record, and within it
 abbrev pub behind : ℕ → Option ℕ
 behind position = if position == 2 ^ 64 - 1 then None else Some (position + 1)
 

@@ -14,7 +14,7 @@ use Rattle.message_lines.specs.declared.part.Part.{Part}
 use Rattle.message_lines.specs.declared.part.Part.TheVariants.{Whole, Key}
 
 abbrev pub column_json : Column → Json → Json
-column_json c value = object (member (codes "name") (string c.name) (member (kind_key (kind_name c.kind)) (kind_json (kind_name c.kind) c.kind) (member (codes "value") value no_members)))
+column_json c value = object (member (codes "name") (string c.name) (member (kind_key (kind_name c.kind c.modifier)) (kind_json (kind_name c.kind c.modifier) c.kind) (member (codes "value") value no_members)))
 
 -- a null is told of a key's own columns alone: of the others a key has none
 abbrev pub is_told : Part → Column → Bool
@@ -44,7 +44,7 @@ AreKinds (c ∷ columns) = (c.kind < 2 ^ 32) × AreKinds columns
 -- ---- as it is written
 
 abbrev pub column_front : Column → List Token
-column_front c = token.begin_object ∷ token.key (codes "name") ∷ token.string c.name ∷ token.key (kind_key (kind_name c.kind)) ∷ (json_tokens (kind_json (kind_name c.kind) c.kind) ++ token.key (codes "value") ∷ [])
+column_front c = token.begin_object ∷ token.key (codes "name") ∷ token.string c.name ∷ token.key (kind_key (kind_name c.kind c.modifier)) ∷ (json_tokens (kind_json (kind_name c.kind c.modifier) c.kind) ++ token.key (codes "value") ∷ [])
 
 abbrev pub cell_tokens : Part → Column → Cell → List Token
 cell_tokens part c cells.Unchanged = []

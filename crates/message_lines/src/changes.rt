@@ -28,6 +28,7 @@ pub fn insert_line(
 {
     let mut out = change(alloc, "I", lsn, relation)?;
     put_row(
+        alloc,
         &mut out,
         "columns",
         Part::Whole,
@@ -50,13 +51,14 @@ pub fn update_line(
 {
     let mut out = change(alloc, "U", lsn, relation)?;
     put_row(
+        alloc,
         &mut out,
         "columns",
         Part::Whole,
         relation,
         message.new.as_slice(),
     )?;
-    put_if_any(&mut out, relation, &message.old)?;
+    put_if_any(alloc, &mut out, relation, &message.old)?;
     Ok(closed(out)?)
 }
 
@@ -71,7 +73,7 @@ pub fn delete_line(
         (λ line. line.items ≡ line_of (delete_json lsn relation.now message.now)) }
 {
     let mut out = change(alloc, "D", lsn, relation)?;
-    put_old(&mut out, relation, &message.old)?;
+    put_old(alloc, &mut out, relation, &message.old)?;
     Ok(closed(out)?)
 }
 
@@ -96,6 +98,7 @@ fn change(alloc: Global, action: &str, lsn: u64, relation: &Relation) -> Result<
 }
 
 fn put_if_any(
+    alloc: Global,
     out: &mut Writer,
     relation: &Relation,
     old: &Option<OldTuple>,
@@ -105,12 +108,17 @@ fn put_if_any(
     ensures before { out.new.before ≡ out.old.before }
 {
     match old {
-        Some(old) => put_old(out, relation, old),
+        Some(old) => put_old(alloc, out, relation, old),
         None => Ok(()),
     }
 }
 
-fn put_old(out: &mut Writer, relation: &Relation, old: &OldTuple) -> Result<(), LineFault>
+fn put_old(
+    alloc: Global,
+    out: &mut Writer,
+    relation: &Relation,
+    old: &OldTuple,
+) -> Result<(), LineFault>
     ensures tokens { OnOk result
         (out.new.tokens
         ≡ out.old.tokens ++ key (codes "identity")
@@ -118,7 +126,14 @@ fn put_old(out: &mut Writer, relation: &Relation, old: &OldTuple) -> Result<(), 
     ensures before { out.new.before ≡ out.old.before }
 {
     match old {
-        OldTuple::Key(row) => put_row(out, "identity", Part::Key, relation, row.as_slice()),
-        OldTuple::Full(row) => put_row(out, "identity", Part::Whole, relation, row.as_slice()),
+        OldTuple::Key(row) => put_row(alloc, out, "identity", Part::Key, relation, row.as_slice()),
+        OldTuple::Full(row) => put_row(
+            alloc,
+            out,
+            "identity",
+            Part::Whole,
+            relation,
+            row.as_slice(),
+        ),
     }
 }

@@ -9,7 +9,7 @@ use json::{Error, Scratch, Value};
 use replcmd::parse_position;
 use std::alloc::{AllocError, Global};
 
-/// Where the log goes on behind the transaction or the note that this line ends, without its line end; None of any other.
+/// Where the log goes on after the transaction or the note that this line ends, without its line end; None of any other.
 pub fn end_of(alloc: Global, line: &str) -> Result<Option<u64>, AllocError>
     ensures { IfOk result (λ end. end ≡ end_of line.now) }
 {
@@ -32,7 +32,7 @@ fn end_in(value: &Value<'_>) -> Option<u64>
     }
 }
 
-/// A position behind the start of a note, which its line doesn't tell the end of.
+/// A position after the start of a note, which its line doesn't tell the end of.
 fn end_of_note(value: &Value<'_>) -> Option<u64>
     ensures { result ≡ end_of_note (value_view value.now) }
 {

@@ -1,5 +1,12 @@
 //! The messages of a stream as lines: of text, for people to read, and of JSON, as users of wal2json know them, with which of
 //! those end a transaction.
+//!
+//! `render` writes a message as text; `insert_line` to `summary_line` write lines of JSON, over the values of `values.rt` and
+//! the members of `members.rt`; `end_of` finds the position that a line of JSON ends at.
+//!
+//! Read `marks.rt`, `changes.rt`, `ending.rt`, then `rendering.rt`. Above, `follower` uses two laws: a reader of JSON finds each
+//! value again (`lines_tell_what_was_written`), and a line ends a transaction exactly where it says so
+//! (`lines_tell_where_they_end`).
 #![tactic(auto)]
 
 mod cell_text;

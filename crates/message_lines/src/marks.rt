@@ -63,7 +63,7 @@ fn put_content(alloc: Global, out: &mut Writer, content: &[u8]) -> Result<(), Al
     }
 }
 
-/// The line behind all others: how many transactions and changes they tell, and the position where a follower goes on.
+/// The line after all others: how many transactions and changes they tell, and the position where a follower goes on.
 pub fn summary_line(
     alloc: Global,
     transactions: u32,

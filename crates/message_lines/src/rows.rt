@@ -16,10 +16,11 @@ use crate::part::Part;
 use crate::values::put_value;
 use json::Writer;
 use pgoutput::{Cell, Column, Relation};
-use std::alloc::AllocError;
+use std::alloc::{AllocError, Global};
 
 /// The member of a row.
 pub(crate) fn put_row(
+    alloc: Global,
     out: &mut Writer,
     name: &str,
     part: Part,
@@ -33,12 +34,13 @@ pub(crate) fn put_row(
 {
     out.key(name)?;
     out.begin_array()?;
-    put_cells(out, part, relation.columns.as_slice(), row)?;
+    put_cells(alloc, out, part, relation.columns.as_slice(), row)?;
     Ok(())
 }
 
 /// The values in a row, and its end. They have to be as many as the columns.
 fn put_cells(
+    alloc: Global,
     out: &mut Writer,
     part: Part,
     columns: &[Column],
@@ -54,7 +56,7 @@ fn put_cells(
         let Some((cell, rest)) = cells.split_first() else {
             return Err(LineFault::Shape);
         };
-        put_cell(out, part, column, cell)?;
+        put_cell(alloc, out, part, column, cell)?;
         left = more;
         cells = rest;
     }
@@ -66,19 +68,25 @@ fn put_cells(
 }
 
 /// A value with its column. One that didn't change and wasn't sent is left out.
-fn put_cell(out: &mut Writer, part: Part, column: &Column, cell: &Cell) -> Result<(), AllocError>
+fn put_cell(
+    alloc: Global,
+    out: &mut Writer,
+    part: Part,
+    column: &Column,
+    cell: &Cell,
+) -> Result<(), AllocError>
     ensures tokens { OnOk result
         (out.new.tokens ≡ out.old.tokens ++ cell_tokens part column.now cell.now) }
     ensures before { out.new.before ≡ out.old.before }
 {
     match cell {
         Cell::Unchanged => Ok(()),
-        Cell::Null => put_null(out, part, column),
-        Cell::Text(text) => put_sent(out, column, text.as_str()),
+        Cell::Null => put_null(alloc, out, part, column),
+        Cell::Text(text) => put_sent(alloc, out, column, text.as_str()),
     }
 }
 
-fn put_null(out: &mut Writer, part: Part, column: &Column) -> Result<(), AllocError>
+fn put_null(alloc: Global, out: &mut Writer, part: Part, column: &Column) -> Result<(), AllocError>
     ensures tokens { OnOk result
         (out.new.tokens ≡ out.old.tokens ++ cell_tokens part column.now cells.Null) }
     ensures before { out.new.before ≡ out.old.before }
@@ -86,33 +94,33 @@ fn put_null(out: &mut Writer, part: Part, column: &Column) -> Result<(), AllocEr
     if !is_told(part, column) {
         return Ok(());
     }
-    begin_column(out, column)?;
+    begin_column(alloc, out, column)?;
     out.null()?;
     out.end_object()?;
     Ok(())
 }
 
-fn put_sent(out: &mut Writer, column: &Column, text: &str) -> Result<(), AllocError>
+fn put_sent(alloc: Global, out: &mut Writer, column: &Column, text: &str) -> Result<(), AllocError>
     ensures tokens { OnOk result
         (out.new.tokens
         ≡ out.old.tokens
         ++ json_tokens (column_json column.now (value_json column.now.kind text.now))) }
     ensures before { out.new.before ≡ out.old.before }
 {
-    begin_column(out, column)?;
+    begin_column(alloc, out, column)?;
     put_value(out, column.kind, text)?;
     out.end_object()?;
     Ok(())
 }
 
 /// All of a column's object up to its value.
-fn begin_column(out: &mut Writer, column: &Column) -> Result<(), AllocError>
+fn begin_column(alloc: Global, out: &mut Writer, column: &Column) -> Result<(), AllocError>
     ensures tokens { OnOk result (out.new.tokens ≡ out.old.tokens ++ column_front column.now) }
     ensures before { out.new.before ≡ out.old.before }
 {
     out.begin_object()?;
     put_text(out, "name", column.name.as_str())?;
-    put_kind(out, column.kind)?;
+    put_kind(alloc, out, column.kind, column.modifier)?;
     out.key("value")?;
     Ok(())
 }

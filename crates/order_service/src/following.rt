@@ -3,6 +3,7 @@
 use follower::{FollowFault, Form, Options, follow};
 use std::alloc::Global;
 use std::net::{Net, SocketAddr, TcpListener, TcpStream};
+use std::random::RandomSource;
 use std::sync::Wait;
 use std::thread;
 use std::thread::Threads;
@@ -17,6 +18,7 @@ const ALL: Options<'static> = Options {
     messages: true,
     count: 5,
     form: Form::Text,
+    password: None,
 };
 
 /// Follows the large orders, of which there are two.
@@ -28,6 +30,7 @@ const LARGE: Options<'static> = Options {
     messages: false,
     count: 2,
     form: Form::Text,
+    password: None,
 };
 
 /// What the followers got, a line each message.
@@ -40,7 +43,12 @@ pub struct Followed {
 /// Both followers, side by side.
 pub fn follow_both<R>(rt: &R, alloc: Global, address: SocketAddr) -> Result<Followed, FollowFault>
 where
-    R: Net<Listener = TcpListener, Stream = TcpStream> + Threads + Wait + Clock + Sync,
+    R: Net<Listener = TcpListener, Stream = TcpStream>
+        + Threads
+        + Wait
+        + Clock
+        + RandomSource
+        + Sync,
 {
     let (all, large) = thread::join(
         rt,
@@ -60,7 +68,7 @@ fn follow_one<R>(
     options: &Options<'_>,
 ) -> Result<Vec<u8>, FollowFault>
 where
-    R: Net<Listener = TcpListener, Stream = TcpStream> + Wait + Clock,
+    R: Net<Listener = TcpListener, Stream = TcpStream> + Wait + Clock + RandomSource,
 {
     let mut socket = TcpStream::connect(rt, address).map_err(FollowFault::Connection)?;
     let mut lines = Vec::new(alloc);

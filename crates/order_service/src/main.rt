@@ -1,4 +1,7 @@
 //! A small service that publishes what it does. `order_service` runs it, beside two followers of what it publishes.
+//!
+//! Read `service.rt`, `ordering.rt`, `following.rt`. It uses the contract of `hub`'s transactions: Ok of an order says that it
+//! is committed, and will be published.
 #![tactic(auto)]
 
 mod fault;

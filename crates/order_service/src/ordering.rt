@@ -1,4 +1,4 @@
-//! The service's own thread: each order is a transaction, and each article of it stands behind a savepoint.
+//! The service's own thread: each order is a transaction, and each article of it stands after a savepoint.
 
 use crate::fault::OrderFault;
 use crate::service::FOLLOWERS;

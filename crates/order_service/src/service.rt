@@ -8,7 +8,7 @@ use crate::ordering::take_orders;
 use crate::shop::CONFIGURATION;
 use anyhow::Result;
 use catalog::Catalog;
-use hub::{Hub, OpenGate, OpenedHub, serve};
+use hub::{Hub, HubBuilder, NoopObserver, serve};
 use pqformat::Text;
 use publication::Publications;
 use shared_log::LogName;
@@ -17,6 +17,7 @@ use std::alloc::Global;
 use std::io::Print;
 use std::marker::Brand;
 use std::net::{Net, SocketAddr, TcpListener, TcpStream};
+use std::random::RandomSource;
 use std::sync::Wait;
 use std::thread;
 use std::thread::Threads;
@@ -27,7 +28,13 @@ pub const FOLLOWERS: u32 = 2;
 
 pub fn follow_orders<R>(rt: &R, alloc: Global) -> Result<()>
 where
-    R: Net<Listener = TcpListener, Stream = TcpStream> + Threads + Wait + Clock + Print + Sync,
+    R: Net<Listener = TcpListener, Stream = TcpStream>
+        + Threads
+        + Wait
+        + Clock
+        + RandomSource
+        + Print
+        + Sync,
 {
     let followed = served::<Brand, R>(rt, alloc, opened(alloc)?)?;
     print_both(rt, &followed)
@@ -42,18 +49,23 @@ fn print_both<R: Print>(rt: &R, followed: &Followed) -> Result<()> {
 }
 
 /// A hub of the shop's tables, whose log has room for 1,000 records.
-fn opened(alloc: Global) -> Result<OpenedHub> {
+fn opened(alloc: Global) -> Result<HubBuilder> {
     let systemid = Text::copy_of(alloc, "shop")?;
     let catalog = Catalog::from_toml(alloc, CONFIGURATION)?;
     let publications = Publications::from_toml(alloc, CONFIGURATION, &catalog)?;
-    Ok(OpenedHub::new(alloc, catalog, publications, systemid, 1000)?)
+    Ok(HubBuilder::new(alloc, catalog, publications, systemid, 1000)?)
 }
 
 /// The log and the slots are named by the call. A hub must be closed, so whatever may fail stands in calls that borrow it.
-fn served<L, R>(rt: &R, alloc: Global, opened: OpenedHub) -> Result<Followed>
+fn served<L, R>(rt: &R, alloc: Global, opened: HubBuilder) -> Result<Followed>
 where
     L: LogName + SlotName + Send + Sync,
-    R: Net<Listener = TcpListener, Stream = TcpStream> + Threads + Wait + Clock + Sync,
+    R: Net<Listener = TcpListener, Stream = TcpStream>
+        + Threads
+        + Wait
+        + Clock
+        + RandomSource
+        + Sync,
     requires log { opened.log.history.seen.book ≡ L.book }
     requires slots { opened.slots.first.table_id ≡ L.table }
 {
@@ -67,14 +79,19 @@ where
 fn serve_both<L, R>(rt: &R, alloc: Global, hub: &Hub<L>) -> Result<Followed>
 where
     L: LogName + SlotName + Send + Sync,
-    R: Net<Listener = TcpListener, Stream = TcpStream> + Threads + Wait + Clock + Sync,
+    R: Net<Listener = TcpListener, Stream = TcpStream>
+        + Threads
+        + Wait
+        + Clock
+        + RandomSource
+        + Sync,
 {
     let listener = TcpListener::bind(rt, "127.0.0.1:0")?;
     let address = listener.local_addr()?;
     let bound = &listener;
     let (served, followed) = thread::join(
         rt,
-        || serve(rt, bound, hub, FOLLOWERS, &OpenGate),
+        || serve(rt, bound, hub, FOLLOWERS, &NoopObserver),
         || order_and_follow(rt, alloc, hub, address),
     );
     served?;
@@ -90,7 +107,12 @@ fn order_and_follow<L, R>(
 ) -> Result<Followed>
 where
     L: LogName + SlotName + Send + Sync,
-    R: Net<Listener = TcpListener, Stream = TcpStream> + Threads + Wait + Clock + Sync,
+    R: Net<Listener = TcpListener, Stream = TcpStream>
+        + Threads
+        + Wait
+        + Clock
+        + RandomSource
+        + Sync,
 {
     let (followed, taken) = thread::join(
         rt,

@@ -2,8 +2,8 @@
 use Rattle.std.proofs.Common.{◌≡◌, ◌≢◌, ℕ, List, [], ◌++◌, Ok, Err, refl, sym, ap, ◌∙◌, append_assoc}
 use Rattle.std.proofs.lemmas.List.{append-nil}
 use Rattle.pqformat.specs.Fields.{int16, int32, string}
-use Rattle.pgoutput.specs.declared.fault.OutFault.{OutFault}
-use Rattle.pgoutput.specs.declared.fault.OutFault.TheVariants.{Short, UnknownKind, BadMark, BadText, Trailing, Memory}
+use Rattle.pgoutput.specs.declared.fault.PgoutputError.{PgoutputError}
+use Rattle.pgoutput.specs.declared.fault.PgoutputError.TheVariants.{Short, UnknownKind, BadMark, BadText, Trailing, Memory}
 use Rattle.pgoutput.specs.declared.logical.Logical.{Logical}
 use Rattle.pgoutput.specs.Logical.{FitsLogical, logical_at, spell_logical}
 use Rattle.pgoutput.specs.Layout.{Field, spell_fields, IsAtFault, IsNoText, IsOther, StopsIn}
@@ -30,7 +30,7 @@ still_no_text (Count16 count) rest more at = absurd at
 still_no_text (Count32 count) rest more at = absurd at
 
 -- What is at fault, but for what isn't there whole, stays so.
-still_at_fault : (e : OutFault) (next : Field) (rest more : List ℕ) → e ≢ Short → IsAtFault e next rest → IsAtFault e next (rest ++ more)
+still_at_fault : (e : PgoutputError) (next : Field) (rest more : List ℕ) → e ≢ Short → IsAtFault e next rest → IsAtFault e next (rest ++ more)
 still_at_fault Short next rest more whole at = absurd (whole refl)
 still_at_fault BadMark next rest more whole at = still_other next rest more at
 still_at_fault BadText next rest more whole at = still_no_text next rest more at
@@ -38,7 +38,7 @@ still_at_fault UnknownKind next rest more whole at = absurd at
 still_at_fault Trailing next rest more whole at = absurd at
 still_at_fault Memory next rest more whole at = absurd at
 
-still_stops : (e : OutFault) (bytes more : List ℕ) → e ≢ Short → StopsIn e bytes → StopsIn e (bytes ++ more)
+still_stops : (e : PgoutputError) (bytes more : List ℕ) → e ≢ Short → StopsIn e bytes → StopsIn e (bytes ++ more)
 still_stops e bytes more whole s = record {
   value = s.value;
   in_range = s.in_range;
@@ -51,10 +51,10 @@ still_stops e bytes more whole s = record {
   at_fault = still_at_fault e s.next s.rest more whole s.at_fault;
 }
 
-not_both : (bytes : List ℕ) (m : Logical) (rest : List ℕ) (e : OutFault) → logical_at bytes ≡ Ok (m, rest) → logical_at bytes ≡ Err e → ⊥
+not_both : (bytes : List ℕ) (m : Logical) (rest : List ℕ) (e : PgoutputError) → logical_at bytes ≡ Ok (m, rest) → logical_at bytes ≡ Err e → ⊥
 not_both bytes m rest e read failed = cc
 
-pub no_message_goes_on : (bytes more : List ℕ) (e : OutFault) (m : Logical) → e ≢ Short → StopsIn e bytes → FitsLogical m → spell_logical m ≡ bytes ++ more → ⊥
+pub no_message_goes_on : (bytes more : List ℕ) (e : PgoutputError) (m : Logical) → e ≢ Short → StopsIn e bytes → FitsLogical m → spell_logical m ≡ bytes ++ more → ⊥
 no_message_goes_on bytes more e m whole s fits spelled =
     let failed : logical_at (bytes ++ more) ≡ Err e = logical_stands (bytes ++ more) e (still_stops e bytes more whole s) in
     let read : logical_at (spell_logical m) ≡ Ok (m, []) = ap logical_at (sym (append-nil (spell_logical m))) ∙ logical_codec.again m [] fits in

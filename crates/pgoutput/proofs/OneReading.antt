@@ -44,7 +44,7 @@ change_kind relation (logical.Begin m) h = absurd h
 change_kind relation (logical.Commit m) h = absurd h
 change_kind relation (logical.Relation m) h = absurd h
 
--- behind the Relations the next word is the same, and so is what follows it
+-- after the Relations the next word is the same, and so is what follows it
 past_relations : (xs ys : List Word) (w v : Word) (u t : List Word) → AllByRecursion (λ x. kind_of x ≡ 3) xs → AllByRecursion (λ y. kind_of y ≡ 3) ys
     → (kind_of w ≡ 3 → ⊥) → (kind_of v ≡ 3 → ⊥) → xs ++ (w ∷ u) ≡ ys ++ (v ∷ t) → (w ≡ v) × (u ≡ t)
 past_relations [] [] w v u t all_x all_y not_w not_v e = (cc, cc)

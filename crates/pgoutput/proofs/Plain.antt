@@ -13,8 +13,8 @@ use Rattle.pqformat.specs.Fields.{bytes_at, number_at, string, string_at, has_ze
 use Rattle.pqformat.specs.Steps.{◌>>=◌, repeat_at}
 use Rattle.pqformat.proofs.Numbers as numbers
 use Rattle.pqformat.proofs.Numbers.{IsWide, wide16, wide32, wide64}
-use Rattle.pgoutput.specs.declared.fault.OutFault.{OutFault}
-use Rattle.pgoutput.specs.declared.fault.OutFault.TheVariants.{Short, BadMark, BadText}
+use Rattle.pgoutput.specs.declared.fault.PgoutputError.{PgoutputError}
+use Rattle.pgoutput.specs.declared.fault.PgoutputError.TheVariants.{Short, BadMark, BadText}
 use Rattle.pgoutput.specs.Reading.{short, expected_letter, one_of, count16_at, count32_at, signed32_at, signed64_at, name_at, text_at}
 use Rattle.pgoutput.specs.Relation.{FitsName}
 use Rattle.pgoutput.specs.Tuple.{counted_text, FitsText}
@@ -22,7 +22,7 @@ use Rattle.pgoutput.proofs.Engine.{Wire, IsFieldFault, converted, tested, with_r
 
 -- ---- a field that isn't there whole
 
-only_short : {A : Type 0} (found : Option A) (e : OutFault) → short found ≡ Err e → IsFieldFault e
+only_short : {A : Type 0} (found : Option A) (e : PgoutputError) → short found ≡ Err e → IsFieldFault e
 only_short None e is = let same : Short ≡ e = cc in subst IsFieldFault same tt
 only_short (Some x) e is = absurd cc
 
@@ -109,7 +109,7 @@ none_there bytes none =
     let far : length bytes ≤ position_or_len (λ b. eqb b 0) bytes = rw (← before_zero-is bytes) (all_before bytes none) in
     rw (le-ltb (position_or_len (λ b. eqb b 0) bytes) (length bytes) far) refl
 
--- a text without a zero byte has none in its beginnings, with the zero byte behind it cut off
+-- a text without a zero byte has none in its beginnings, with the zero byte after it cut off
 zero_cut : (text : List ℕ) (n : ℕ) → has_zero text ≡ false → n < length (string text) → has_zero (take n (string text)) ≡ false
 zero_cut [] zero none lt = refl
 zero_cut [] (suc n) none lt = absurd (omega arith)
@@ -135,17 +135,17 @@ pub text_wire : Wire text_at counted_text FitsText
 unfolding text_at
 text_wire = counted count32 length _ (λ text. text) (λ text. is_utf8 text ≡ true) (λ n. tested (bytes_of n) is_utf8 BadText tt)
 
--- items behind their count
-pub list_wire : {A : Type 0} {read : List ℕ → Result (A × List ℕ) OutFault} {t : A → List ℕ} {F : A → Type 0} → Wire read t F
+-- items after their count
+pub list_wire : {A : Type 0} {read : List ℕ → Result (A × List ℕ) PgoutputError} {t : A → List ℕ} {F : A → Type 0} → Wire read t F
     → Wire (λ bytes. count16_at bytes >>= λ n. repeat_at read n.0 n.1) (λ xs. int16 (length xs) ++ flat_map t xs) (λ xs. (length xs < 2 ^ 15) × AllByRecursion F xs)
 list_wire {A} {read} {t} {F} c = counted count16 length _ (flat_map t) (AllByRecursion F) (λ n. repeated c n)
 
 -- ---- letters
 
-abbrev pub lettered : {X : Type 0} → List ℕ → Option X → Result (X × List ℕ) OutFault
+abbrev pub lettered : {X : Type 0} → List ℕ → Option X → Result (X × List ℕ) PgoutputError
 lettered rest found = ok_or found BadMark >>= λ x. Ok (x, rest)
 
-no_letter : {X : Type 0} (rest : List ℕ) (found : Option X) (e : OutFault) → lettered rest found ≡ Err e → IsFieldFault e
+no_letter : {X : Type 0} (rest : List ℕ) (found : Option X) (e : PgoutputError) → lettered rest found ≡ Err e → IsFieldFault e
 no_letter rest (Some x) e is = absurd cc
 no_letter rest None e is = let same : BadMark ≡ e = cc in subst IsFieldFault same tt
 
@@ -156,7 +156,7 @@ letter_wire {X} of letter there back = record {
   own = own;
   cut = λ x n fits lt. cut x n lt;
 } where
-  own : (bytes : List ℕ) (e : OutFault) → one_of of bytes ≡ Err e → IsFieldFault e
+  own : (bytes : List ℕ) (e : PgoutputError) → one_of of bytes ≡ Err e → IsFieldFault e
   own [] e is = let same : Short ≡ e = cc in subst IsFieldFault same tt
   own (b ∷ bytes) e is = no_letter bytes (of b) e is
 
@@ -164,10 +164,10 @@ letter_wire {X} of letter there back = record {
   cut x zero lt = refl
   cut x (suc n) lt = absurd (omega arith)
 
-abbrev pub marked : Bool → List ℕ → Result (Unit {0} × List ℕ) OutFault
+abbrev pub marked : Bool → List ℕ → Result (Unit {0} × List ℕ) PgoutputError
 marked same rest = cond same (Ok (tt, rest)) (Err BadMark)
 
-no_mark : (same : Bool) (rest : List ℕ) (e : OutFault) → marked same rest ≡ Err e → IsFieldFault e
+no_mark : (same : Bool) (rest : List ℕ) (e : PgoutputError) → marked same rest ≡ Err e → IsFieldFault e
 no_mark true rest e is = absurd cc
 no_mark false rest e is = let bad : BadMark ≡ e = cc in subst IsFieldFault bad tt
 
@@ -177,7 +177,7 @@ expected_wire k = record {
   own = own;
   cut = λ x n fits lt. cut n lt;
 } where
-  own : (bytes : List ℕ) (e : OutFault) → expected_letter k bytes ≡ Err e → IsFieldFault e
+  own : (bytes : List ℕ) (e : PgoutputError) → expected_letter k bytes ≡ Err e → IsFieldFault e
   own [] e is = let same : Short ≡ e = cc in subst IsFieldFault same tt
   own (b ∷ bytes) e is = no_mark (eqb b k) bytes e is
 

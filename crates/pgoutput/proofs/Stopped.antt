@@ -3,8 +3,8 @@ use Rattle.std.proofs.Common.{◌≡◌, ℕ, ◌<◌, ◌^◌, Bool, true, fals
 use Rattle.std.specs.Prelude.{◌||◌, ◌==◌}
 use Rattle.std.specs.List.{flat_map, list_any, AllByRecursion}
 use Rattle.pqformat.specs.Fields.{int16}
-use Rattle.pgoutput.specs.declared.fault.OutFault.{OutFault}
-use Rattle.pgoutput.specs.declared.fault.OutFault.TheVariants.{BadMark}
+use Rattle.pgoutput.specs.declared.fault.PgoutputError.{PgoutputError}
+use Rattle.pgoutput.specs.declared.fault.PgoutputError.TheVariants.{BadMark}
 use Rattle.pgoutput.specs.declared.tuple.Cell.{Cell}
 use Rattle.pgoutput.specs.declared.tuple.Cell.TheVariants as cells
 use Rattle.pgoutput.specs.declared.tuple.TheConstants.{NULL, UNCHANGED, TEXT}
@@ -135,7 +135,7 @@ other_cell : (b : ℕ) (bytes : List ℕ) → list_any (λ l. b == l) cell_lette
 unfolding cell_at
 other_cell b bytes why = none_of_three (eqb b NULL) (eqb b UNCHANGED) (eqb b TEXT) _ _ _ _ why
 
-cell_stands : (x : Cell) → FitsCell x → (before : List Field) (next : Field) (after : List Field) (rest : List ℕ) (e : OutFault) → cell_fields x ≡ before ++ next ∷ after → IsAtFault e next rest → cell_at (spell_fields before ++ rest) ≡ Err e
+cell_stands : (x : Cell) → FitsCell x → (before : List Field) (next : Field) (after : List Field) (rest : List ℕ) (e : PgoutputError) → cell_fields x ≡ before ++ next ∷ after → IsAtFault e next rest → cell_at (spell_fields before ++ rest) ≡ Err e
 unfolding cell_at
 cell_stands cells.Null fits before next after rest e parts at = chosen_stands nothing NULL (Letter cell_letters NULL) (λ _. cells.Null) cell_at refl (λ bytes. refl) (letter_stands cell_at cell_letters NULL refl other_cell) tt tt before next after rest e parts at
 cell_stands cells.Unchanged fits before next after rest e parts at = chosen_stands nothing UNCHANGED (Letter cell_letters UNCHANGED) (λ _. cells.Unchanged) cell_at refl (λ bytes. refl) (letter_stands cell_at cell_letters UNCHANGED refl other_cell) tt tt before next after rest e parts at
@@ -165,7 +165,7 @@ other_sent_cell : (b : ℕ) (bytes : List ℕ) → list_any (λ l. b == l) sent_
 unfolding sent_cell_at
 other_sent_cell b bytes why = none_of_two (eqb b NULL) (eqb b TEXT) _ _ _ why
 
-sent_cell_stands : (x : Cell) → FitsSentCell x → (before : List Field) (next : Field) (after : List Field) (rest : List ℕ) (e : OutFault) → sent_cell_fields x ≡ before ++ next ∷ after → IsAtFault e next rest
+sent_cell_stands : (x : Cell) → FitsSentCell x → (before : List Field) (next : Field) (after : List Field) (rest : List ℕ) (e : PgoutputError) → sent_cell_fields x ≡ before ++ next ∷ after → IsAtFault e next rest
     → sent_cell_at (spell_fields before ++ rest) ≡ Err e
 unfolding sent_cell_at
 sent_cell_stands cells.Null fits before next after rest e parts at =

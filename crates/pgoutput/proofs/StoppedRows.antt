@@ -4,8 +4,8 @@ use Rattle.std.specs.Prelude.{◌⊎◌, ◌==◌}
 use Rattle.std.specs.List.{flat_map, list_any, AllByRecursion}
 use Rattle.pqformat.specs.Fields.{int32}
 use Rattle.pqformat.proofs.Codec.{IsBytes, IsBytes-rest}
-use Rattle.pgoutput.specs.declared.fault.OutFault.{OutFault}
-use Rattle.pgoutput.specs.declared.fault.OutFault.TheVariants.{Short, UnknownKind, BadMark}
+use Rattle.pgoutput.specs.declared.fault.PgoutputError.{PgoutputError}
+use Rattle.pgoutput.specs.declared.fault.PgoutputError.TheVariants.{Short, UnknownKind, BadMark}
 use Rattle.pgoutput.specs.declared.tuple.Cell.{Cell}
 use Rattle.pgoutput.specs.declared.logical.Logical.{Logical}
 use Rattle.pgoutput.specs.declared.logical.Logical.TheVariants as logical
@@ -47,7 +47,7 @@ old_spelled : (x : OldTuple) → spell_fields (old_fields x) ≡ old_tuple x
 old_spelled (olds.Key cells) = spell-cons (Letter old_letters KEY) (tuple_fields cells) ∙ ap (λ (l : List ℕ). KEY ∷ l) (tuple_told.spelled cells)
 old_spelled (olds.Full cells) = spell-cons (Letter old_letters OLD) (tuple_fields cells) ∙ ap (λ (l : List ℕ). OLD ∷ l) (tuple_told.spelled cells)
 
-old_stands : (x : OldTuple) → FitsOldTuple x → (before : List Field) (next : Field) (after : List Field) (rest : List ℕ) (e : OutFault) → old_fields x ≡ before ++ next ∷ after → IsAtFault e next rest → old_tuple_at (spell_fields before ++ rest) ≡ Err e
+old_stands : (x : OldTuple) → FitsOldTuple x → (before : List Field) (next : Field) (after : List Field) (rest : List ℕ) (e : PgoutputError) → old_fields x ≡ before ++ next ∷ after → IsAtFault e next rest → old_tuple_at (spell_fields before ++ rest) ≡ Err e
 unfolding old_tuple_at
 old_stands (olds.Key cells) fits before next after rest e parts at = chosen_stands tuple_told KEY (Letter old_letters KEY) (λ cells. olds.Key cells) old_tuple_at refl (λ bytes. refl) (letter_stands old_tuple_at old_letters KEY refl other_old) cells fits before next after rest e parts at
 old_stands (olds.Full cells) fits before next after rest e parts at = chosen_stands tuple_told OLD (Letter old_letters OLD) (λ cells. olds.Full cells) old_tuple_at refl (λ bytes. refl) (letter_stands old_tuple_at old_letters OLD refl other_old) cells fits before next after rest e parts at
@@ -92,7 +92,7 @@ rows_spelled None new = spell-cons (Letter row_letters NEW) (tuple_fields new) �
 rows_spelled (Some (olds.Key old)) new = spell-cons (Letter row_letters KEY) (tuples_fields (old, new)) ∙ ap (λ (l : List ℕ). KEY ∷ l) (tuples_told.spelled (old, new))
 rows_spelled (Some (olds.Full old)) new = spell-cons (Letter row_letters OLD) (tuples_fields (old, new)) ∙ ap (λ (l : List ℕ). OLD ∷ l) (tuples_told.spelled (old, new))
 
-rows_stands : (old : Option OldTuple) (new : List Cell) → FitRows (old, new) → (before : List Field) (next : Field) (after : List Field) (rest : List ℕ) (e : OutFault) → row_fields old new ≡ before ++ next ∷ after → IsAtFault e next rest → rows_at (spell_fields before ++ rest) ≡ Err e
+rows_stands : (old : Option OldTuple) (new : List Cell) → FitRows (old, new) → (before : List Field) (next : Field) (after : List Field) (rest : List ℕ) (e : PgoutputError) → row_fields old new ≡ before ++ next ∷ after → IsAtFault e next rest → rows_at (spell_fields before ++ rest) ≡ Err e
 unfolding rows_at
 rows_stands None new fits before next after rest e parts at = chosen_stands tuple_told NEW (Letter row_letters NEW) (λ new. (None, new)) rows_at refl (λ bytes. refl) (letter_stands rows_at row_letters NEW refl other_row) new fits.1 before next after rest e parts at
 rows_stands (Some (olds.Key old)) new fits before next after rest e parts at = chosen_stands tuples_told KEY (Letter row_letters KEY) (λ t. (Some (olds.Key t.0), t.1)) rows_at refl (λ bytes. refl) (letter_stands rows_at row_letters KEY refl other_row) (old, new) fits before next after rest e parts at
@@ -167,26 +167,26 @@ logical_told =
     no_choice UnknownKind fields_of FitsLogical))))))))
 
 -- where reading a message fails, but for its kind byte
-pub logical_stops : (bytes : List ℕ) (e : OutFault) → IsBytes bytes → logical_at bytes ≡ Err e → StopsIn e bytes ⊎ (e ≡ UnknownKind)
+pub logical_stops : (bytes : List ℕ) (e : PgoutputError) → IsBytes bytes → logical_at bytes ≡ Err e → StopsIn e bytes ⊎ (e ≡ UnknownKind)
 unfolding logical_at
 logical_stops [] e fits is =
     let same : Short ≡ e = cc in
     let m = begin_told.some in
     let early : IsAtFault Short (kind BEGIN) [] = omega arith in
     let here : StopsIn Short [] = record { value = logical.Begin m.value; in_range = m.fits; before = []; next = kind BEGIN; after = layout.begin_fields m.value; rest = []; parts = refl; text = refl; at_fault = early } in
-    inl (subst (λ (f : OutFault). StopsIn f []) same here)
+    inl (subst (λ (f : PgoutputError). StopsIn f []) same here)
 logical_stops (b ∷ bytes) e fits is = elim (logical_told.stops b bytes e (IsBytes-rest b bytes fits) is) [
   | inl s ↦ inl s
   | inr other ↦ inr other.0
 ]
 
 -- no byte at all stands where the kind byte is due
-no_kind : (k : ℕ) (e : OutFault) (rest : List ℕ) → IsAtFault e (kind k) rest → logical_at rest ≡ Err e
+no_kind : (k : ℕ) (e : PgoutputError) (rest : List ℕ) → IsAtFault e (kind k) rest → logical_at rest ≡ Err e
 unfolding logical_at
 no_kind k e [] at = let a = number_at_fault (k ∷ []) [] e at in ap Err (sym a.0)
 no_kind k e (b ∷ rest) at = let a = number_at_fault (k ∷ []) (b ∷ rest) e at in absurd (omega arith)
 
-stands_so : (m : Logical) → FitsLogical m → (before : List Field) (next : Field) (after : List Field) (rest : List ℕ) (e : OutFault) → fields_of m ≡ before ++ next ∷ after → IsAtFault e next rest → logical_at (spell_fields before ++ rest) ≡ Err e
+stands_so : (m : Logical) → FitsLogical m → (before : List Field) (next : Field) (after : List Field) (rest : List ℕ) (e : PgoutputError) → fields_of m ≡ before ++ next ∷ after → IsAtFault e next rest → logical_at (spell_fields before ++ rest) ≡ Err e
 unfolding logical_at
 stands_so (logical.Begin m) fits before next after rest e parts at = chosen_stands begin_told BEGIN (kind BEGIN) (λ m. logical.Begin m) logical_at refl (λ bytes. refl) (no_kind BEGIN) m fits before next after rest e parts at
 stands_so (logical.Commit m) fits before next after rest e parts at = chosen_stands commit_told COMMIT (kind COMMIT) (λ m. logical.Commit m) logical_at refl (λ bytes. refl) (no_kind COMMIT) m fits before next after rest e parts at
@@ -197,5 +197,5 @@ stands_so (logical.Delete m) fits before next after rest e parts at = chosen_sta
 stands_so (logical.Truncate m) fits before next after rest e parts at = chosen_stands truncate_told TRUNCATE (kind TRUNCATE) (λ m. logical.Truncate m) logical_at refl (λ bytes. refl) (no_kind TRUNCATE) m fits before next after rest e parts at
 stands_so (logical.Message m) fits before next after rest e parts at = chosen_stands message_told MESSAGE (kind MESSAGE) (λ m. logical.Message m) logical_at refl (λ bytes. refl) (no_kind MESSAGE) m fits before next after rest e parts at
 
-pub logical_stands : (bytes : List ℕ) (e : OutFault) → StopsIn e bytes → logical_at bytes ≡ Err e
+pub logical_stands : (bytes : List ℕ) (e : PgoutputError) → StopsIn e bytes → logical_at bytes ≡ Err e
 logical_stands bytes e s = ap logical_at s.text ∙ stands_so s.value s.in_range s.before s.next s.after s.rest e s.parts s.at_fault

@@ -8,15 +8,15 @@ use Rattle.std.proofs.lemmas.List.{length-replicate}
 use Rattle.std.proofs.lemmas.List.Concat.{flat_map-cons}
 use Rattle.pqformat.specs.Steps.{◌>>=◌, repeat_at}
 use Rattle.pqformat.proofs.Codec.{IsBytes, IsBytes-rest}
-use Rattle.pgoutput.specs.declared.fault.OutFault.{OutFault}
-use Rattle.pgoutput.specs.declared.fault.OutFault.TheVariants.{Short, UnknownKind, BadMark, BadText, Trailing, Memory}
+use Rattle.pgoutput.specs.declared.fault.PgoutputError.{PgoutputError}
+use Rattle.pgoutput.specs.declared.fault.PgoutputError.TheVariants.{Short, UnknownKind, BadMark, BadText, Trailing, Memory}
 use Rattle.pgoutput.specs.Layout.{Field, spell_field, spell_fields, IsAtFault, Stops}
 use Rattle.pgoutput.specs.Layout.Field.{Letter}
 use Rattle.pgoutput.proofs.Engine as engine
 use Rattle.pgoutput.proofs.Engine.{Wire, bind_err, by_first}
 use Rattle.pgoutput.proofs.Stopping.{Told, InRange, parted, none_in, spell-append, spell-cons, with_behind, with_front, behind_front}
 
--- ---- n of them, one behind the other
+-- ---- n of them, one after the other
 
 all_same : {A : Type 0} (F : A → Type 0) (x : A) (n : ℕ) → F x → AllByRecursion F (replicate n x)
 all_same F x zero fits = tt
@@ -31,7 +31,7 @@ spelled_list t fa spelled (x ∷ xs) =
 abbrev Listed : {A : Type 0} → (A → Type 0) → ℕ → List A → Type 0
 Listed F n xs = (length xs ≡ n) × AllByRecursion F xs
 
-list_stops : {A : Type 0} {read : List ℕ → Result (A × List ℕ) OutFault} {t : A → List ℕ} {F : A → Type 0} {fa : A → List Field} (c : Told read t F fa) (n : ℕ) (bytes : List ℕ) (e : OutFault)
+list_stops : {A : Type 0} {read : List ℕ → Result (A × List ℕ) PgoutputError} {t : A → List ℕ} {F : A → Type 0} {fa : A → List Field} (c : Told read t F fa) (n : ℕ) (bytes : List ℕ) (e : PgoutputError)
     → IsBytes bytes → repeat_at read n bytes ≡ Err e → Stops (flat_map fa) (Listed F n) e bytes
 unfolding repeat_at
 list_stops c zero bytes e fits is = absurd cc
@@ -51,8 +51,8 @@ list_stops {A} {read} {t} {F} {fa} c (suc n) bytes e fits is =
           ]
     ]
 
-list_stands : {A : Type 0} {read : List ℕ → Result (A × List ℕ) OutFault} {t : A → List ℕ} {F : A → Type 0} {fa : A → List Field} (c : Told read t F fa) (xs : List A)
-    (before : List Field) (next : Field) (after : List Field) (rest : List ℕ) (e : OutFault)
+list_stands : {A : Type 0} {read : List ℕ → Result (A × List ℕ) PgoutputError} {t : A → List ℕ} {F : A → Type 0} {fa : A → List Field} (c : Told read t F fa) (xs : List A)
+    (before : List Field) (next : Field) (after : List Field) (rest : List ℕ) (e : PgoutputError)
     → AllByRecursion F xs → flat_map fa xs ≡ before ++ next ∷ after → IsAtFault e next rest → repeat_at read (length xs) (spell_fields before ++ rest) ≡ Err e
 unfolding repeat_at
 list_stands c [] before next after rest e fits parts at_fault = absurd (none_in before next after parts)
@@ -65,7 +65,7 @@ list_stands {A} {read} {t} {F} {fa} c (x ∷ xs) before next after rest e fits p
           rw (whole, c.wire.codec.again x left fits.0, list_stands c xs last.front next after rest e fits.1 last.is at_fault) refl
     ]
 
-pub repeated : {A : Type 0} {read : List ℕ → Result (A × List ℕ) OutFault} {t : A → List ℕ} {F : A → Type 0} {fa : A → List Field} → Told read t F fa → (n : ℕ)
+pub repeated : {A : Type 0} {read : List ℕ → Result (A × List ℕ) PgoutputError} {t : A → List ℕ} {F : A → Type 0} {fa : A → List Field} → Told read t F fa → (n : ℕ)
     → Told (repeat_at read n) (flat_map t) (λ xs. (length xs ≡ n) × AllByRecursion F xs) (flat_map fa)
 repeated {A} {read} {t} {F} {fa} c n = record {
   wire = engine.repeated c.wire n;
@@ -79,17 +79,17 @@ repeated {A} {read} {t} {F} {fa} c n = record {
 
 -- ---- a choice by the first byte, which stands as the field `first`
 
-pub record ChosenTold {X : Type 0} (d : OutFault) (read : ℕ → List ℕ → Result (X × List ℕ) OutFault) (fields : X → List Field) (Fits : X → Type 0) (is_kind : ℕ → Bool) : Type 0 where
-  pub stops : (b : ℕ) (bytes : List ℕ) (e : OutFault) → IsBytes bytes → read b bytes ≡ Err e → Stops fields Fits e (b ∷ bytes) ⊎ ((e ≡ d) × (is_kind b ≡ false))
+pub record ChosenTold {X : Type 0} (d : PgoutputError) (read : ℕ → List ℕ → Result (X × List ℕ) PgoutputError) (fields : X → List Field) (Fits : X → Type 0) (is_kind : ℕ → Bool) : Type 0 where
+  pub stops : (b : ℕ) (bytes : List ℕ) (e : PgoutputError) → IsBytes bytes → read b bytes ≡ Err e → Stops fields Fits e (b ∷ bytes) ⊎ ((e ≡ d) × (is_kind b ≡ false))
 
 -- no byte is left to choose
-pub no_choice : {X : Type 0} (d : OutFault) (fields : X → List Field) (Fits : X → Type 0) → ChosenTold {X = X} d (λ _ _. Err d) fields Fits (λ _. false)
+pub no_choice : {X : Type 0} (d : PgoutputError) (fields : X → List Field) (Fits : X → Type 0) → ChosenTold {X = X} d (λ _ _. Err d) fields Fits (λ _. false)
 no_choice d fields Fits = record { stops = λ b bytes e fits is. let same : d ≡ e = cc in inr (sym same, refl) }
 
 -- byte k, and then a value from which the whole is made
-pub choice : {A X : Type 0} {d : OutFault} {read : List ℕ → Result (A × List ℕ) OutFault} {t : A → List ℕ} {F : A → Type 0} {fa : A → List Field} (k : ℕ) (first : Field) → spell_field first ≡ k ∷ [] → Told read t F fa
+pub choice : {A X : Type 0} {d : PgoutputError} {read : List ℕ → Result (A × List ℕ) PgoutputError} {t : A → List ℕ} {F : A → Type 0} {fa : A → List Field} (k : ℕ) (first : Field) → spell_field first ≡ k ∷ [] → Told read t F fa
     → (make : A → X) (fields : X → List Field) (Fits : X → Type 0) → ((a : A) → fields (make a) ≡ first ∷ fa a) → ((a : A) → F a → Fits (make a))
-    → {others : ℕ → List ℕ → Result (X × List ℕ) OutFault} {is_other : ℕ → Bool} → ChosenTold d others fields Fits is_other
+    → {others : ℕ → List ℕ → Result (X × List ℕ) PgoutputError} {is_other : ℕ → Bool} → ChosenTold d others fields Fits is_other
     → ChosenTold d (λ b bytes. cond (eqb b k) (read bytes >>= λ a. Ok (make a.0, a.1)) (others b bytes)) fields Fits (λ b. eqb b k || is_other b)
 choice {A} {X} {d} {read} {t} {F} {fa} k first single c make fields Fits laid in_range {others} {is_other} rest_of = record {
   stops = λ b bytes e fits is. by_test b bytes e fits (eqb b k) (λ same. eqb-true b k same) is;
@@ -97,10 +97,10 @@ choice {A} {X} {d} {read} {t} {F} {fa} k first single c make fields Fits laid in
   spelled_first : spell_fields (first ∷ []) ≡ k ∷ []
   spelled_first = spell-cons first [] ∙ ap (λ (l : List ℕ). l ++ []) single
 
-  behind : (b : ℕ) (bytes : List ℕ) (e : OutFault) → b ≡ k → Stops fa F e bytes → Stops fields Fits e (b ∷ bytes)
+  behind : (b : ℕ) (bytes : List ℕ) (e : PgoutputError) → b ≡ k → Stops fa F e bytes → Stops fields Fits e (b ∷ bytes)
   behind b bytes e is s = with_front (b ∷ bytes) (k ∷ []) bytes s (make s.value) (first ∷ []) (ap (λ (x : ℕ). x ∷ bytes) is) spelled_first (in_range s.value s.in_range) (laid s.value)
 
-  by_test : (b : ℕ) (bytes : List ℕ) (e : OutFault) → IsBytes bytes → (is : Bool) → (is ≡ true → b ≡ k)
+  by_test : (b : ℕ) (bytes : List ℕ) (e : PgoutputError) → IsBytes bytes → (is : Bool) → (is ≡ true → b ≡ k)
       → cond is (read bytes >>= λ a. Ok (make a.0, a.1)) (others b bytes) ≡ Err e → Stops fields Fits e (b ∷ bytes) ⊎ ((e ≡ d) × ((is || is_other b) ≡ false))
   by_test b bytes e fits true same is =
       elim (bind_err (read bytes) (λ a. Ok (make a.0, a.1)) e is) [
@@ -109,12 +109,12 @@ choice {A} {X} {d} {read} {t} {F} {fa} k first single c make fields Fits laid in
       ]
   by_test b bytes e fits false same is = rest_of.stops b bytes e fits is
 
--- where the fields behind the byte k stop, the whole does
-pub chosen_stands : {A X : Type 0} {read : List ℕ → Result (A × List ℕ) OutFault} {t : A → List ℕ} {F : A → Type 0} {fa : A → List Field} (c : Told read t F fa)
-    (k : ℕ) (first : Field) (make : A → X) (whole : List ℕ → Result (X × List ℕ) OutFault)
+-- where the fields after the byte k stop, the whole does
+pub chosen_stands : {A X : Type 0} {read : List ℕ → Result (A × List ℕ) PgoutputError} {t : A → List ℕ} {F : A → Type 0} {fa : A → List Field} (c : Told read t F fa)
+    (k : ℕ) (first : Field) (make : A → X) (whole : List ℕ → Result (X × List ℕ) PgoutputError)
     → spell_field first ≡ k ∷ [] → ((bytes : List ℕ) → whole (k ∷ bytes) ≡ (read bytes >>= λ a. Ok (make a.0, a.1)))
-    → ((e : OutFault) (rest : List ℕ) → IsAtFault e first rest → whole rest ≡ Err e)
-    → (a : A) → F a → (before : List Field) (next : Field) (after : List Field) (rest : List ℕ) (e : OutFault)
+    → ((e : PgoutputError) (rest : List ℕ) → IsAtFault e first rest → whole rest ≡ Err e)
+    → (a : A) → F a → (before : List Field) (next : Field) (after : List Field) (rest : List ℕ) (e : PgoutputError)
     → first ∷ fa a ≡ before ++ next ∷ after → IsAtFault e next rest → whole (spell_fields before ++ rest) ≡ Err e
 chosen_stands c k first make whole single chosen at_first a fits [] next after rest e parts at_fault =
     let same : next ≡ first = cc in
@@ -127,9 +127,9 @@ chosen_stands {A} {X} {read} {t} {F} {fa} c k first make whole single chosen at_
     ap whole bytes ∙ chosen left ∙ rw (c.stands left e (record { value = a; in_range = fits; before = before; next = next; after = after; rest = rest; parts = behind; text = refl; at_fault = at_fault })) refl
 
 -- a byte that is none of these letters, or no byte
-pub letter_stands : {Y : Type 0} (whole : List ℕ → Result Y OutFault) (letters : List ℕ) (k : ℕ) → whole [] ≡ Err Short
+pub letter_stands : {Y : Type 0} (whole : List ℕ → Result Y PgoutputError) (letters : List ℕ) (k : ℕ) → whole [] ≡ Err Short
     → ((b : ℕ) (bytes : List ℕ) → list_any (λ l. b == l) letters ≡ false → whole (b ∷ bytes) ≡ Err BadMark)
-    → (e : OutFault) (rest : List ℕ) → IsAtFault e (Letter letters k) rest → whole rest ≡ Err e
+    → (e : PgoutputError) (rest : List ℕ) → IsAtFault e (Letter letters k) rest → whole rest ≡ Err e
 letter_stands whole letters k none other Short [] at_fault = none
 letter_stands whole letters k none other Short (b ∷ rest) at_fault = absurd (omega arith)
 letter_stands whole letters k none other BadMark rest at_fault = ap whole at_fault.2 ∙ other at_fault.0 at_fault.1 at_fault.3
@@ -139,11 +139,11 @@ letter_stands whole letters k none other Trailing rest at_fault = absurd at_faul
 letter_stands whole letters k none other Memory rest at_fault = absurd at_fault
 
 -- What is chosen by a letter: some value of it has this letter first.
-pub choice_told : {X : Type 0} {read : ℕ → List ℕ → Result (X × List ℕ) OutFault} {text : X → List ℕ} {Fits : X → Type 0} {fields : X → List Field}
+pub choice_told : {X : Type 0} {read : ℕ → List ℕ → Result (X × List ℕ) PgoutputError} {text : X → List ℕ} {Fits : X → Type 0} {fields : X → List Field}
     (letters : List ℕ) (k : ℕ) (tail : List Field) → Wire (by_first read) text Fits → ChosenTold BadMark read fields Fits (λ b. list_any (λ l. b == l) letters)
     → (some : InRange Fits) → fields some.value ≡ Letter letters k ∷ tail
     → ((x : X) → spell_fields (fields x) ≡ text x)
-    → ((x : X) → Fits x → (before : List Field) (next : Field) (after : List Field) (rest : List ℕ) (e : OutFault) → fields x ≡ before ++ next ∷ after → IsAtFault e next rest → by_first read (spell_fields before ++ rest) ≡ Err e)
+    → ((x : X) → Fits x → (before : List Field) (next : Field) (after : List Field) (rest : List ℕ) (e : PgoutputError) → fields x ≡ before ++ next ∷ after → IsAtFault e next rest → by_first read (spell_fields before ++ rest) ≡ Err e)
     → Told (by_first read) text Fits fields
 choice_told {X} {read} {text} {Fits} {fields} letters k tail wire chosen some laid spelled stands = record {
   wire = wire;
@@ -152,19 +152,19 @@ choice_told {X} {read} {text} {Fits} {fields} letters k tail wire chosen some la
   stops = stops;
   stands = λ bytes e s. ap (by_first read) s.text ∙ stands s.value s.in_range s.before s.next s.after s.rest e s.parts s.at_fault;
 } where
-  at_front : (bytes : List ℕ) (e : OutFault) → IsAtFault e (Letter letters k) bytes → Stops fields Fits e bytes
+  at_front : (bytes : List ℕ) (e : PgoutputError) → IsAtFault e (Letter letters k) bytes → Stops fields Fits e bytes
   at_front bytes e at_fault = record { value = some.value; in_range = some.fits; before = []; next = Letter letters k; after = tail; rest = bytes; parts = laid; text = refl; at_fault = at_fault }
 
-  stops : (bytes : List ℕ) (e : OutFault) → IsBytes bytes → by_first read bytes ≡ Err e → Stops fields Fits e bytes
+  stops : (bytes : List ℕ) (e : PgoutputError) → IsBytes bytes → by_first read bytes ≡ Err e → Stops fields Fits e bytes
   stops [] e fits is =
       let same : Short ≡ e = cc in
       let early : IsAtFault Short (Letter letters k) [] = omega arith in
-      at_front [] e (subst (λ (f : OutFault). IsAtFault f (Letter letters k) []) same early)
+      at_front [] e (subst (λ (f : PgoutputError). IsAtFault f (Letter letters k) []) same early)
   stops (b ∷ bytes) e fits is = elim (chosen.stops b bytes e (IsBytes-rest b bytes fits) is) [
     | inl s ↦ s
     | inr other ↦
         let none : IsAtFault BadMark (Letter letters k) (b ∷ bytes) = (b, bytes, refl, other.1) in
-        at_front (b ∷ bytes) e (subst (λ (f : OutFault). IsAtFault f (Letter letters k) (b ∷ bytes)) (sym other.0) none)
+        at_front (b ∷ bytes) e (subst (λ (f : PgoutputError). IsAtFault f (Letter letters k) (b ∷ bytes)) (sym other.0) none)
   ]
 
 -- none of the letters was chosen

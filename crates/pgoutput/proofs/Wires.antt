@@ -4,8 +4,8 @@ use Rattle.std.specs.List.{flat_map, AllByRecursion}
 use Rattle.pqformat.specs.Fields.{int16, int32, bytes_at}
 use Rattle.std.proofs.lemmas.Bool.Decides.{nat_tests}
 use Rattle.pqformat.specs.Steps.{◌>>=◌, repeat_at}
-use Rattle.pgoutput.specs.declared.fault.OutFault.{OutFault}
-use Rattle.pgoutput.specs.declared.fault.OutFault.TheVariants.{Short, UnknownKind, BadMark}
+use Rattle.pgoutput.specs.declared.fault.PgoutputError.{PgoutputError}
+use Rattle.pgoutput.specs.declared.fault.PgoutputError.TheVariants.{Short, UnknownKind, BadMark}
 use Rattle.pgoutput.specs.declared.truncate.Truncate.{Truncate}
 use Rattle.pgoutput.specs.Reading.{short, one_of}
 use Rattle.pgoutput.specs.declared.tuple.Cell.{Cell}
@@ -263,7 +263,7 @@ options_wire = letter_wire options_of options_letter (λ b o. options_there b o.
 abbrev Counted : ℕ → Truncate → Type 0
 Counted n m = (length m.oids ≡ n) × AllByRecursion (λ oid. oid < 2 ^ 32) m.oids
 
-abbrev oids_behind : ℕ → List ℕ → Result (Truncate × List ℕ) OutFault
+abbrev oids_behind : ℕ → List ℕ → Result (Truncate × List ℕ) PgoutputError
 oids_behind n bytes = do
   options ← one_of options_of bytes
   oids ← repeat_at oid_at n options.1

@@ -4,7 +4,7 @@ use Rattle.std.specs.Int.{w32, w64, cast_unsigned}
 use Rattle.pqformat.specs.Fields.{int32, int64, number_at}
 use Rattle.pqformat.specs.Steps.{◌>>=◌}
 use Rattle.pgoutput.specs.Reading.{short, signed64_at}
-use Rattle.pgoutput.specs.declared.fault.OutFault.{OutFault}
+use Rattle.pgoutput.specs.declared.fault.PgoutputError.{PgoutputError}
 use Rattle.pgoutput.specs.declared.begin.Begin.{Begin}
 
 abbrev pub begin : Begin → List ℕ
@@ -13,7 +13,7 @@ begin m = int64 m.position ++ (int64 (cast_unsigned w64 m.time) ++ int32 m.xid)
 abbrev pub FitsBegin : Begin → Type 0
 FitsBegin m = (m.position < 2 ^ 64) × (FitsSigned w64 m.time × (m.xid < 2 ^ 32))
 
-unfoldable pub begin_at : List ℕ → Result (Begin × List ℕ) OutFault
+unfoldable pub begin_at : List ℕ → Result (Begin × List ℕ) PgoutputError
 begin_at bytes = do
   position ← short (number_at w64 bytes)
   time ← signed64_at position.1

@@ -4,7 +4,7 @@ use Rattle.std.specs.Int.{w64, cast_unsigned}
 use Rattle.pqformat.specs.Fields.{int64, number_at}
 use Rattle.pqformat.specs.Steps.{◌>>=◌}
 use Rattle.pgoutput.specs.Reading.{short, expected_letter, signed64_at}
-use Rattle.pgoutput.specs.declared.fault.OutFault.{OutFault}
+use Rattle.pgoutput.specs.declared.fault.PgoutputError.{PgoutputError}
 use Rattle.pgoutput.specs.declared.commit.Commit.{Commit}
 use Rattle.pgoutput.specs.declared.commit.TheConstants.{COMMIT_FLAGS}
 
@@ -14,7 +14,7 @@ commit m = (COMMIT_FLAGS ∷ []) ++ (int64 m.position ++ (int64 m.end ++ int64 (
 abbrev pub FitsCommit : Commit → Type 0
 FitsCommit m = (m.position < 2 ^ 64) × ((m.end < 2 ^ 64) × FitsSigned w64 m.time)
 
-unfoldable pub commit_at : List ℕ → Result (Commit × List ℕ) OutFault
+unfoldable pub commit_at : List ℕ → Result (Commit × List ℕ) PgoutputError
 commit_at bytes = do
   flags ← expected_letter COMMIT_FLAGS bytes
   position ← short (number_at w64 flags.1)

@@ -4,7 +4,7 @@ use Rattle.std.specs.Int.{w32}
 use Rattle.pqformat.specs.Fields.{int32, number_at}
 use Rattle.pqformat.specs.Steps.{◌>>=◌}
 use Rattle.pgoutput.specs.Reading.{short}
-use Rattle.pgoutput.specs.declared.fault.OutFault.{OutFault}
+use Rattle.pgoutput.specs.declared.fault.PgoutputError.{PgoutputError}
 use Rattle.pgoutput.specs.declared.delete.Delete.{Delete}
 use Rattle.pgoutput.specs.OldTuple.{old_tuple, FitsOldTuple, IsShortOldTuple, old_tuple_at}
 
@@ -17,7 +17,7 @@ FitsDelete m = (m.oid < 2 ^ 32) × FitsOldTuple m.old
 abbrev pub IsShortDelete : Delete → Type 0
 IsShortDelete m = IsShortOldTuple m.old
 
-unfoldable pub delete_at : List ℕ → Result (Delete × List ℕ) OutFault
+unfoldable pub delete_at : List ℕ → Result (Delete × List ℕ) PgoutputError
 delete_at bytes = do
   oid ← short (number_at w32 bytes)
   old ← old_tuple_at oid.1

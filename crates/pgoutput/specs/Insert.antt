@@ -4,7 +4,7 @@ use Rattle.std.specs.Int.{w32}
 use Rattle.pqformat.specs.Fields.{int32, number_at}
 use Rattle.pqformat.specs.Steps.{◌>>=◌}
 use Rattle.pgoutput.specs.Reading.{short, expected_letter}
-use Rattle.pgoutput.specs.declared.fault.OutFault.{OutFault}
+use Rattle.pgoutput.specs.declared.fault.PgoutputError.{PgoutputError}
 use Rattle.pgoutput.specs.declared.insert.Insert.{Insert}
 use Rattle.pgoutput.specs.declared.insert.TheConstants.{NEW}
 use Rattle.pgoutput.specs.Tuple.{tuple, FitsSentTuple, IsShortTuple, sent_tuple_at}
@@ -18,7 +18,7 @@ FitsInsert m = (m.oid < 2 ^ 32) × FitsSentTuple m.new
 abbrev pub IsShortInsert : Insert → Type 0
 IsShortInsert m = IsShortTuple m.new
 
-unfoldable pub insert_at : List ℕ → Result (Insert × List ℕ) OutFault
+unfoldable pub insert_at : List ℕ → Result (Insert × List ℕ) PgoutputError
 insert_at bytes = do
   oid ← short (number_at w32 bytes)
   letter ← expected_letter NEW oid.1

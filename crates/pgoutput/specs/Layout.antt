@@ -5,8 +5,8 @@ use Rattle.std.specs.List.{flat_map, list_any}
 use Rattle.std.specs.Int.{w32, w64, cast_unsigned}
 use Rattle.std.specs.Str.{is_utf8}
 use Rattle.pqformat.specs.Fields.{int16, int32, int64, string, has_zero}
-use Rattle.pgoutput.specs.declared.fault.OutFault.{OutFault}
-use Rattle.pgoutput.specs.declared.fault.OutFault.TheVariants.{Short, BadMark, BadText}
+use Rattle.pgoutput.specs.declared.fault.PgoutputError.{PgoutputError}
+use Rattle.pgoutput.specs.declared.fault.PgoutputError.TheVariants.{Short, BadMark, BadText}
 use Rattle.pgoutput.specs.declared.begin.Begin.{Begin}
 use Rattle.pgoutput.specs.declared.commit.Commit.{Commit}
 use Rattle.pgoutput.specs.declared.commit.TheConstants.{COMMIT_FLAGS}
@@ -183,14 +183,14 @@ IsNoText (Name name) rest = (bad more : List ℕ) × (rest ≡ string bad ++ mor
 IsNoText (Text text) rest = (bad more : List ℕ) × (rest ≡ bad ++ more) × (length bad ≡ length text) × (is_utf8 bad ≡ false)
 IsNoText field rest = ⊥
 
-abbrev pub IsAtFault : OutFault → Field → List ℕ → Type 0
+abbrev pub IsAtFault : PgoutputError → Field → List ℕ → Type 0
 IsAtFault Short field rest = IsOpen field rest
 IsAtFault BadMark field rest = IsOther field rest
 IsAtFault BadText field rest = IsNoText field rest
 IsAtFault _ field rest = ⊥
 
--- The bytes begin with whole fields of some value in range, and what stands behind them is at fault where its next field is due.
-pub record Stops {A : Type 0} (fields : A → List Field) (Fits : A → Type 0) (e : OutFault) (bytes : List ℕ) : Type 0 where
+-- The bytes begin with whole fields of some value in range, and what stands after them is at fault where its next field is due.
+pub record Stops {A : Type 0} (fields : A → List Field) (Fits : A → Type 0) (e : PgoutputError) (bytes : List ℕ) : Type 0 where
   pub value : A
   pub in_range : Fits value
   pub before : List Field
@@ -202,5 +202,5 @@ pub record Stops {A : Type 0} (fields : A → List Field) (Fits : A → Type 0) 
   pub at_fault : IsAtFault e next rest
 
 -- The same of a message: the fields before the fault are those of a message, and the next one of that message doesn't stand there.
-abbrev pub StopsIn : OutFault → List ℕ → Type 0
+abbrev pub StopsIn : PgoutputError → List ℕ → Type 0
 StopsIn e bytes = Stops fields_of FitsLogical e bytes

@@ -4,8 +4,8 @@ use Rattle.std.specs.List.{list_any}
 use Rattle.pqformat.specs.Fields.{byte_at}
 use Rattle.pqformat.specs.Steps.{◌>>=◌}
 use Rattle.pgoutput.specs.Reading.{short}
-use Rattle.pgoutput.specs.declared.fault.OutFault.{OutFault}
-use Rattle.pgoutput.specs.declared.fault.OutFault.TheVariants.{UnknownKind, Trailing, Memory}
+use Rattle.pgoutput.specs.declared.fault.PgoutputError.{PgoutputError}
+use Rattle.pgoutput.specs.declared.fault.PgoutputError.TheVariants.{UnknownKind, Trailing, Memory}
 use Rattle.pgoutput.specs.declared.logical.Logical.{Logical}
 use Rattle.pgoutput.specs.declared.logical.Logical.TheVariants as logical
 use Rattle.pgoutput.specs.declared.begin.TheConstants.{BEGIN}
@@ -67,7 +67,7 @@ IsShort (logical.Message m) = HasShortContent m
 IsShort _ = Unit {0}
 
 -- the message at the front: its kind byte, and then the fields of that kind
-abbrev pub fields_at : ℕ → List ℕ → Result (Logical × List ℕ) OutFault
+abbrev pub fields_at : ℕ → List ℕ → Result (Logical × List ℕ) PgoutputError
 fields_at kind bytes =
     if kind == BEGIN then (begin_at bytes >>= λ m. Ok (logical.Begin m.0, m.1))
     else if kind == COMMIT then (commit_at bytes >>= λ m. Ok (logical.Commit m.0, m.1))
@@ -79,15 +79,15 @@ fields_at kind bytes =
     else if kind == MESSAGE then (message_at bytes >>= λ m. Ok (logical.Message m.0, m.1))
     else Err UnknownKind
 
-unfoldable pub logical_at : List ℕ → Result (Logical × List ℕ) OutFault
+unfoldable pub logical_at : List ℕ → Result (Logical × List ℕ) PgoutputError
 logical_at bytes = short (byte_at bytes) >>= λ kind. fields_at kind.0 kind.1
 
--- with nothing behind it
-abbrev pub alone : Logical → List ℕ → Result Logical OutFault
+-- with nothing after it
+abbrev pub alone : Logical → List ℕ → Result Logical PgoutputError
 alone m [] = Ok m
 alone m (b ∷ rest) = Err Trailing
 
-abbrev pub whole_of : List ℕ → Result Logical OutFault
+abbrev pub whole_of : List ℕ → Result Logical PgoutputError
 whole_of bytes = logical_at bytes >>= λ m. alone m.0 m.1
 
 -- ---- Where a fault stands.
@@ -99,9 +99,9 @@ is_kind b = list_any (λ k. b == k) (BEGIN ∷ COMMIT ∷ RELATION ∷ INSERT �
 abbrev pub needs_memory : ℕ → Bool
 needs_memory b = if b == BEGIN || b == COMMIT then false else is_kind b
 
--- at the first byte; behind a whole message; for want of memory, only where there is something to keep; any other where
+-- at the first byte; after a whole message; for want of memory, only where there is something to keep; any other where
 -- the reading of the fields stops
-abbrev pub Stands : OutFault → List ℕ → Type 0
+abbrev pub Stands : PgoutputError → List ℕ → Type 0
 Stands UnknownKind bytes = (b : ℕ) × (rest : List ℕ) × (bytes ≡ b ∷ rest) × (is_kind b ≡ false)
 Stands Trailing bytes = (m : Logical) × (rest : List ℕ) × FitsLogical m × (bytes ≡ spell_logical m ++ rest) × (rest ≢ [])
 Stands Memory bytes = (b : ℕ) × (rest : List ℕ) × (bytes ≡ b ∷ rest) × (needs_memory b ≡ true)

@@ -1,4 +1,4 @@
--- Message (PostgreSQL 15, 55.9): M, its flags (1: transactional), the position of its record, its prefix, and its content behind the
+-- Message (PostgreSQL 15, 55.9): M, its flags (1: transactional), the position of its record, its prefix, and its content after the
 -- length.
 use Rattle.std.specs.Prelude.{ℕ, ◌<◌, ◌^◌, ◌==◌, Bool, true, false, List, [], ◌∷◌, ◌++◌, length, Option, Some, None, Result, Ok, if◌then◌else◌}
 use Rattle.std.specs.Int.{w64}
@@ -6,7 +6,7 @@ use Rattle.pqformat.specs.Fields.{int32, int64, string, bytes_at, number_at}
 use Rattle.pqformat.specs.Steps.{◌>>=◌}
 use Rattle.pgoutput.specs.Reading.{short, one_of, count32_at, name_at}
 use Rattle.pgoutput.specs.Relation.{FitsName}
-use Rattle.pgoutput.specs.declared.fault.OutFault.{OutFault}
+use Rattle.pgoutput.specs.declared.fault.PgoutputError.{PgoutputError}
 use Rattle.pgoutput.specs.declared.message.Message.{Message}
 use Rattle.pgoutput.specs.declared.message.TheConstants.{TRANSACTIONAL, NOT_TRANSACTIONAL}
 
@@ -14,7 +14,7 @@ abbrev pub message_flags : Bool → ℕ
 message_flags true = TRANSACTIONAL
 message_flags false = NOT_TRANSACTIONAL
 
--- bytes behind their length
+-- bytes after their length
 abbrev pub content : List ℕ → List ℕ
 content bytes = int32 (length bytes) ++ bytes
 
@@ -34,10 +34,10 @@ HasShortContent m = FitsContent m.content
 abbrev pub is_transactional_of : ℕ → Option Bool
 is_transactional_of b = if b == TRANSACTIONAL then Some true else if b == NOT_TRANSACTIONAL then Some false else None
 
-unfoldable pub content_at : List ℕ → Result (List ℕ × List ℕ) OutFault
+unfoldable pub content_at : List ℕ → Result (List ℕ × List ℕ) PgoutputError
 content_at bytes = count32_at bytes >>= λ n. short (bytes_at n.0 n.1)
 
-unfoldable pub message_at : List ℕ → Result (Message × List ℕ) OutFault
+unfoldable pub message_at : List ℕ → Result (Message × List ℕ) PgoutputError
 message_at bytes = do
   is_transactional ← one_of is_transactional_of bytes
   position ← short (number_at w64 is_transactional.1)

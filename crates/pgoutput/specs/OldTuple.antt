@@ -3,8 +3,8 @@ use Rattle.std.specs.Prelude.{ℕ, ◌==◌, List, ◌∷◌, Result, Ok, Err, i
 use Rattle.pqformat.specs.Fields.{byte_at}
 use Rattle.pqformat.specs.Steps.{◌>>=◌}
 use Rattle.pgoutput.specs.Reading.{short}
-use Rattle.pgoutput.specs.declared.fault.OutFault.{OutFault}
-use Rattle.pgoutput.specs.declared.fault.OutFault.TheVariants.{BadMark}
+use Rattle.pgoutput.specs.declared.fault.PgoutputError.{PgoutputError}
+use Rattle.pgoutput.specs.declared.fault.PgoutputError.TheVariants.{BadMark}
 use Rattle.pgoutput.specs.declared.tuple.Cell.{Cell}
 use Rattle.pgoutput.specs.declared.old_tuple.OldTuple.{OldTuple}
 use Rattle.pgoutput.specs.declared.old_tuple.OldTuple.TheVariants.{Key, Full}
@@ -25,7 +25,7 @@ FitsOldTuple old = FitsTuple (cells_of old)
 abbrev pub IsShortOldTuple : OldTuple → Type 0
 IsShortOldTuple old = IsShortTuple (cells_of old)
 
-unfoldable pub old_tuple_at : List ℕ → Result (OldTuple × List ℕ) OutFault
+unfoldable pub old_tuple_at : List ℕ → Result (OldTuple × List ℕ) PgoutputError
 old_tuple_at bytes = short (byte_at bytes) >>= λ b.
     if b.0 == KEY then (tuple_at b.1 >>= λ t. Ok (Key t.0, t.1))
     else if b.0 == OLD then (tuple_at b.1 >>= λ t. Ok (Full t.0, t.1))

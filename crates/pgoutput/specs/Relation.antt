@@ -7,7 +7,7 @@ use Rattle.std.specs.Str.{is_utf8}
 use Rattle.pqformat.specs.Fields.{int16, int32, string, has_zero, number_at}
 use Rattle.pqformat.specs.Steps.{◌>>=◌, repeat_at}
 use Rattle.pgoutput.specs.Reading.{short, one_of, count16_at, signed32_at, name_at}
-use Rattle.pgoutput.specs.declared.fault.OutFault.{OutFault}
+use Rattle.pgoutput.specs.declared.fault.PgoutputError.{PgoutputError}
 use Rattle.pgoutput.specs.declared.relation.Relation.{Relation}
 use Rattle.pgoutput.specs.declared.relation.Column.{Column}
 use Rattle.pgoutput.specs.declared.relation.Identity.{Identity}
@@ -55,7 +55,7 @@ identity_of b =
 abbrev pub is_key_of : ℕ → Option Bool
 is_key_of b = if b == KEY_FLAG then Some true else if b == NO_FLAG then Some false else None
 
-unfoldable pub column_at : List ℕ → Result (Column × List ℕ) OutFault
+unfoldable pub column_at : List ℕ → Result (Column × List ℕ) PgoutputError
 column_at bytes = do
   is_key ← one_of is_key_of bytes
   name ← name_at is_key.1
@@ -63,10 +63,10 @@ column_at bytes = do
   modifier ← signed32_at kind.1
   Ok (record { is_key = is_key.0; name = name.0; kind = kind.0; modifier = modifier.0 }, modifier.1)
 
-unfoldable pub columns_at : List ℕ → Result (List Column × List ℕ) OutFault
+unfoldable pub columns_at : List ℕ → Result (List Column × List ℕ) PgoutputError
 columns_at bytes = count16_at bytes >>= λ n. repeat_at column_at n.0 n.1
 
-unfoldable pub relation_at : List ℕ → Result (Relation × List ℕ) OutFault
+unfoldable pub relation_at : List ℕ → Result (Relation × List ℕ) PgoutputError
 relation_at bytes = do
   oid ← short (number_at w32 bytes)
   namespace ← name_at oid.1

@@ -7,7 +7,7 @@ use Rattle.pgoutput.specs.declared.published.Published.{Published}
 use Rattle.pgoutput.specs.Items.{Item, KeepaliveItem, bytes_of_items, transactions_of, FitItems}
 
 -- Safe keepalives. Each one carries a number that is at most the limit, the end of what was read of the log; and every
--- transaction whose commit record starts below that number stands whole before the keepalive. Told from behind: no
+-- transaction whose commit record starts below that number stands whole before the keepalive. Told from the end: no
 -- transaction that stands after the keepalive starts below its number.
 abbrev pub AreSafeKeepalives : ℕ → List Item → Type 0
 AreSafeKeepalives limit [] = Unit {0}

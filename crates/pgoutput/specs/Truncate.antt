@@ -6,7 +6,7 @@ use Rattle.std.specs.Int.{w32}
 use Rattle.pqformat.specs.Fields.{int32, number_at}
 use Rattle.pqformat.specs.Steps.{◌>>=◌, repeat_at}
 use Rattle.pgoutput.specs.Reading.{short, one_of, count32_at}
-use Rattle.pgoutput.specs.declared.fault.OutFault.{OutFault}
+use Rattle.pgoutput.specs.declared.fault.PgoutputError.{PgoutputError}
 use Rattle.pgoutput.specs.declared.truncate.Truncate.{Truncate}
 use Rattle.pgoutput.specs.declared.truncate.TruncateOptions.{TruncateOptions}
 use Rattle.pgoutput.specs.declared.truncate.TheConstants.{NO_OPTIONS, CASCADE, RESTART_IDENTITY, CASCADE_AND_RESTART_IDENTITY}
@@ -41,10 +41,10 @@ options_of b =
     else if b == CASCADE_AND_RESTART_IDENTITY then Some (options true true)
     else None
 
-abbrev pub oid_at : List ℕ → Result (ℕ × List ℕ) OutFault
+abbrev pub oid_at : List ℕ → Result (ℕ × List ℕ) PgoutputError
 oid_at bytes = short (number_at w32 bytes)
 
-unfoldable pub truncate_at : List ℕ → Result (Truncate × List ℕ) OutFault
+unfoldable pub truncate_at : List ℕ → Result (Truncate × List ℕ) PgoutputError
 truncate_at bytes = do
   count ← count32_at bytes
   options ← one_of options_of count.1

@@ -6,8 +6,8 @@ use Rattle.std.specs.Str.{is_utf8}
 use Rattle.pqformat.specs.Fields.{int16, int32, byte_at}
 use Rattle.pqformat.specs.Steps.{◌>>=◌, repeat_at}
 use Rattle.pgoutput.specs.Reading.{short, count16_at, text_at}
-use Rattle.pgoutput.specs.declared.fault.OutFault.{OutFault}
-use Rattle.pgoutput.specs.declared.fault.OutFault.TheVariants.{BadMark}
+use Rattle.pgoutput.specs.declared.fault.PgoutputError.{PgoutputError}
+use Rattle.pgoutput.specs.declared.fault.PgoutputError.TheVariants.{BadMark}
 use Rattle.pgoutput.specs.declared.tuple.Cell.{Cell}
 use Rattle.pgoutput.specs.declared.tuple.Cell.TheVariants as cells
 use Rattle.pgoutput.specs.declared.tuple.TheConstants.{NULL, UNCHANGED, TEXT}
@@ -49,21 +49,21 @@ IsShortCell _ = Unit {0}
 abbrev pub IsShortTuple : List Cell → Type 0
 IsShortTuple cells = (length cells < 2 ^ 15) × AllByRecursion IsShortCell cells
 
-unfoldable pub cell_at : List ℕ → Result (Cell × List ℕ) OutFault
+unfoldable pub cell_at : List ℕ → Result (Cell × List ℕ) PgoutputError
 cell_at bytes = short (byte_at bytes) >>= λ b.
     if b.0 == NULL then Ok (cells.Null, b.1)
     else if b.0 == UNCHANGED then Ok (cells.Unchanged, b.1)
     else if b.0 == TEXT then (text_at b.1 >>= λ t. Ok (cells.Text t.0, t.1))
     else Err BadMark
 
-unfoldable pub tuple_at : List ℕ → Result (List Cell × List ℕ) OutFault
+unfoldable pub tuple_at : List ℕ → Result (List Cell × List ℕ) PgoutputError
 tuple_at bytes = count16_at bytes >>= λ n. repeat_at cell_at n.0 n.1
 
-unfoldable pub sent_cell_at : List ℕ → Result (Cell × List ℕ) OutFault
+unfoldable pub sent_cell_at : List ℕ → Result (Cell × List ℕ) PgoutputError
 sent_cell_at bytes = short (byte_at bytes) >>= λ b.
     if b.0 == NULL then Ok (cells.Null, b.1)
     else if b.0 == TEXT then (text_at b.1 >>= λ t. Ok (cells.Text t.0, t.1))
     else Err BadMark
 
-unfoldable pub sent_tuple_at : List ℕ → Result (List Cell × List ℕ) OutFault
+unfoldable pub sent_tuple_at : List ℕ → Result (List Cell × List ℕ) PgoutputError
 sent_tuple_at bytes = count16_at bytes >>= λ n. repeat_at sent_cell_at n.0 n.1

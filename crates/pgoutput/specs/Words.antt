@@ -20,7 +20,7 @@ word_body (words.XLogData s) = xlogdata s.start s.end s.clock (spell_logical s.m
 abbrev pub word_bytes : Word → List ℕ
 word_bytes w = frame COPY_DATA (word_body w)
 
--- what words spell, one behind the other
+-- what words spell, one after the other
 abbrev pub frames_of : List Word → List ℕ
 frames_of ws = flat_map word_bytes ws
 

@@ -5,7 +5,7 @@ ghost use Rattle.pqformat.specs.Putting.{Puts};
 ghost use Rattle.pgoutput.specs.Reading.{Gives};
 ghost use Rattle.pgoutput.specs.Begin.{begin, begin_at};
 
-use crate::fault::OutFault;
+use crate::fault::PgoutputError;
 use crate::fields::{number32_of, number64_of, put_signed64, signed64_of};
 use bytes::BytesMut;
 use pqformat::{Cursor, put_int32, put_int64};
@@ -29,11 +29,11 @@ pub struct Begin {
     pub xid: u32,
 }
 
-/// The fields of Begin, which stand behind its kind byte, or the fault at which they stop.
+/// The fields of Begin, which stand after its kind byte, or the fault at which they stop.
 #[tactic(auto, unfolding(crate::specs::Begin::begin_at))]
-pub fn begin_of(cursor: &mut Cursor<'_>) -> Result<Begin, OutFault>
+pub fn begin_of(cursor: &mut Cursor<'_>) -> Result<Begin, PgoutputError>
     ensures exact { Gives result cursor.new (begin_at cursor.old) }
-    ensures steady { result ≢ Err OutFault.Memory }
+    ensures steady { result ≢ Err PgoutputError.Memory }
 {
     Ok(Begin {
         position: number64_of(cursor)?,
@@ -42,7 +42,7 @@ pub fn begin_of(cursor: &mut Cursor<'_>) -> Result<Begin, OutFault>
     })
 }
 
-/// Adds the fields of Begin, behind its kind byte. Where memory is refused, some of them may have been added.
+/// Adds the fields of Begin, after its kind byte. Where memory is refused, some of them may have been added.
 #[tactic(auto, using(pqformat::proofs::Putting::in_place))]
 pub fn put_begin(out: &mut BytesMut, message: &Begin) -> Result<(), AllocError>
     ensures { Puts result out.old.items out.new.items (begin message.now) }

@@ -1,11 +1,11 @@
-//! Commit, behind a transaction's messages: its type, its reader and its writer.
+//! Commit, after a transaction's messages: its type, its reader and its writer.
 
 ghost use Rattle.std.specs.Prelude.{◌≡◌, ◌≢◌, Err};
 ghost use Rattle.pqformat.specs.Putting.{Puts};
 ghost use Rattle.pgoutput.specs.Reading.{Gives};
 ghost use Rattle.pgoutput.specs.Commit.{commit, commit_at};
 
-use crate::fault::OutFault;
+use crate::fault::PgoutputError;
 use crate::fields::{expected_of, number64_of, put_signed64, signed64_of};
 use bytes::BytesMut;
 use pqformat::{Cursor, put_byte, put_int64};
@@ -32,11 +32,11 @@ pub struct Commit {
     pub time: i64,
 }
 
-/// The fields of Commit, which stand behind its kind byte, or the fault at which they stop.
+/// The fields of Commit, which stand after its kind byte, or the fault at which they stop.
 #[tactic(auto, unfolding(crate::specs::Commit::commit_at))]
-pub fn commit_of(cursor: &mut Cursor<'_>) -> Result<Commit, OutFault>
+pub fn commit_of(cursor: &mut Cursor<'_>) -> Result<Commit, PgoutputError>
     ensures exact { Gives result cursor.new (commit_at cursor.old) }
-    ensures steady { result ≢ Err OutFault.Memory }
+    ensures steady { result ≢ Err PgoutputError.Memory }
 {
     expected_of(cursor, COMMIT_FLAGS)?;
     Ok(Commit {
@@ -46,7 +46,7 @@ pub fn commit_of(cursor: &mut Cursor<'_>) -> Result<Commit, OutFault>
     })
 }
 
-/// Adds the fields of Commit, behind its kind byte. Where memory is refused, some of them may have been added.
+/// Adds the fields of Commit, after its kind byte. Where memory is refused, some of them may have been added.
 #[tactic(auto, using(pqformat::proofs::Putting::in_place))]
 pub fn put_commit(out: &mut BytesMut, message: &Commit) -> Result<(), AllocError>
     ensures { Puts result out.old.items out.new.items (commit message.now) }

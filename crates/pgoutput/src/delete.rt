@@ -5,7 +5,7 @@ ghost use Rattle.pqformat.specs.Putting.{Puts};
 ghost use Rattle.pgoutput.specs.Reading.{Gives};
 ghost use Rattle.pgoutput.specs.Delete.{delete, delete_at, IsShortDelete};
 
-use crate::fault::OutFault;
+use crate::fault::PgoutputError;
 use crate::fields::number32_of;
 use crate::old_tuple::{OldTuple, old_tuple_of, put_old_tuple};
 use bytes::BytesMut;
@@ -27,9 +27,9 @@ pub struct Delete {
     pub old: OldTuple,
 }
 
-/// The fields of Delete, which stand behind its kind byte, or the fault at which they stop.
+/// The fields of Delete, which stand after its kind byte, or the fault at which they stop.
 #[tactic(auto, unfolding(crate::specs::Delete::delete_at))]
-pub fn delete_of(alloc: Global, cursor: &mut Cursor<'_>) -> Result<Delete, OutFault>
+pub fn delete_of(alloc: Global, cursor: &mut Cursor<'_>) -> Result<Delete, PgoutputError>
     ensures { Gives result cursor.new (delete_at cursor.old) }
 {
     let oid = number32_of(cursor)?;
@@ -37,7 +37,7 @@ pub fn delete_of(alloc: Global, cursor: &mut Cursor<'_>) -> Result<Delete, OutFa
     Ok(Delete { oid, old })
 }
 
-/// Adds the fields of Delete, behind its kind byte. Where memory is refused, some of them may have been added.
+/// Adds the fields of Delete, after its kind byte. Where memory is refused, some of them may have been added.
 #[tactic(auto, using(pqformat::proofs::Putting::in_place))]
 pub fn put_delete(out: &mut BytesMut, message: &Delete) -> Result<(), AllocError>
     requires { IsShortDelete message.now }

@@ -1,14 +1,14 @@
 //! The faults of logical messages, O1 to O6.
 
 ghost use Rattle.std.specs.Prelude.{◌≡◌};
-ghost use Rattle.pgoutput.specs.declared.fault.OutFault.TheVariants.{Memory};
+ghost use Rattle.pgoutput.specs.declared.fault.PgoutputError.TheVariants.{Memory};
 
 use std::alloc::{AllocError, AllocFailed};
 use thiserror::Error;
 
 /// Why no message was read.
 #[derive(Clone, Copy, Debug, PartialEq, Eq, Error)]
-pub enum OutFault {
+pub enum PgoutputError {
     #[error("O1: the message ends inside a field")]
     Short,
     #[error("O2: no message has this kind byte")]
@@ -23,18 +23,18 @@ pub enum OutFault {
     Memory,
 }
 
-impl From<AllocError> for OutFault {
+impl From<AllocError> for PgoutputError {
     ghost from_gives = { λ _ e. e ≡ Memory };
 
-    fn from(_e: AllocError) -> OutFault {
-        OutFault::Memory
+    fn from(_e: AllocError) -> PgoutputError {
+        PgoutputError::Memory
     }
 }
 
-impl<T: Drop> From<AllocFailed<T>> for OutFault {
+impl<T: Drop> From<AllocFailed<T>> for PgoutputError {
     ghost from_gives = { λ _ e. e ≡ Memory };
 
-    fn from(_e: AllocFailed<T>) -> OutFault {
-        OutFault::Memory
+    fn from(_e: AllocFailed<T>) -> PgoutputError {
+        PgoutputError::Memory
     }
 }

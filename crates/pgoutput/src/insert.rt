@@ -5,7 +5,7 @@ ghost use Rattle.pqformat.specs.Putting.{Puts};
 ghost use Rattle.pgoutput.specs.Reading.{Gives};
 ghost use Rattle.pgoutput.specs.Insert.{insert, insert_at, IsShortInsert};
 
-use crate::fault::OutFault;
+use crate::fault::PgoutputError;
 use crate::fields::{expected_of, number32_of};
 use crate::tuple::{Cell, put_tuple, sent_tuple_of};
 use bytes::BytesMut;
@@ -31,9 +31,9 @@ pub struct Insert {
     pub new: Items<Cell>,
 }
 
-/// The fields of Insert, which stand behind its kind byte, or the fault at which they stop.
+/// The fields of Insert, which stand after its kind byte, or the fault at which they stop.
 #[tactic(auto, unfolding(crate::specs::Insert::insert_at))]
-pub fn insert_of(alloc: Global, cursor: &mut Cursor<'_>) -> Result<Insert, OutFault>
+pub fn insert_of(alloc: Global, cursor: &mut Cursor<'_>) -> Result<Insert, PgoutputError>
     ensures { Gives result cursor.new (insert_at cursor.old) }
 {
     let oid = number32_of(cursor)?;
@@ -42,7 +42,7 @@ pub fn insert_of(alloc: Global, cursor: &mut Cursor<'_>) -> Result<Insert, OutFa
     Ok(Insert { oid, new })
 }
 
-/// Adds the fields of Insert, behind its kind byte. Where memory is refused, some of them may have been added.
+/// Adds the fields of Insert, after its kind byte. Where memory is refused, some of them may have been added.
 #[tactic(auto, using(pqformat::proofs::Putting::in_place))]
 pub fn put_insert(out: &mut BytesMut, message: &Insert) -> Result<(), AllocError>
     requires { IsShortInsert message.now }

@@ -3,7 +3,7 @@
 ghost use Rattle.std.specs.Prelude.{◌≡◌};
 ghost use Rattle.pgoutput.specs.Reading.{Gives, one_of};
 
-use crate::fault::OutFault;
+use crate::fault::PgoutputError;
 use crate::fields::byte_of;
 use pqformat::Cursor;
 
@@ -18,11 +18,11 @@ pub(crate) trait Letter: Copy {
 }
 
 /// What the next byte says; one that says nothing is O3.
-pub(crate) fn told_of<T: Letter>(cursor: &mut Cursor<'_>) -> Result<T, OutFault>
+pub(crate) fn told_of<T: Letter>(cursor: &mut Cursor<'_>) -> Result<T, PgoutputError>
     ensures { Gives result cursor.new (one_of T.told_by cursor.old) }
 {
     let letter = byte_of(cursor)?;
-    T::of(letter).ok_or(OutFault::BadMark)
+    T::of(letter).ok_or(PgoutputError::BadMark)
 }
 
 /// Whether, by 1 or 0.

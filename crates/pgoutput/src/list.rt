@@ -7,7 +7,7 @@ ghost use Rattle.pqformat.specs.Steps.{repeat_at};
 ghost use Rattle.pqformat.specs.Putting.{Puts};
 ghost use Rattle.pgoutput.specs.Reading.{Gives};
 
-use crate::fault::OutFault;
+use crate::fault::PgoutputError;
 use bytes::BytesMut;
 use pqformat::{Cursor, Items, put_int16};
 use std::alloc::{AllocError, Global};
@@ -15,13 +15,13 @@ use std::alloc::{AllocError, Global};
 /// What stands in a list, as it is read.
 pub(crate) trait ReadItem {
     ghost use Rattle.std.specs.Prelude.{List, ℕ, Result};
-    ghost use Rattle.pgoutput.specs.declared.fault.OutFault.{OutFault};
+    ghost use Rattle.pgoutput.specs.declared.fault.PgoutputError.{PgoutputError};
 
     type Item: Drop;
 
-    ghost item_at: { List ℕ → Result (Self.Item × List ℕ) OutFault };
+    ghost item_at: { List ℕ → Result (Self.Item × List ℕ) PgoutputError };
 
-    fn read(alloc: Global, cursor: &mut Cursor<'_>) -> Result<Self::Item, OutFault>
+    fn read(alloc: Global, cursor: &mut Cursor<'_>) -> Result<Self::Item, PgoutputError>
         ensures { Gives result cursor.new (item_at cursor.old) };
 }
 
@@ -29,7 +29,7 @@ pub(crate) fn items_of<T: ReadItem>(
     alloc: Global,
     cursor: &mut Cursor<'_>,
     count: usize,
-) -> Result<Items<T::Item>, OutFault>
+) -> Result<Items<T::Item>, PgoutputError>
     ensures { Gives result cursor.new (repeat_at T.item_at count cursor.old) }
 {
     let mut items = Vec::new(alloc);

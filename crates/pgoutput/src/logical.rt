@@ -10,7 +10,7 @@ ghost use Rattle.pgoutput.specs.Logical.{SpellsLogical, FitsLogical, IsShort, St
 use crate::begin::{BEGIN, Begin, begin_of, put_begin};
 use crate::commit::{COMMIT, Commit, commit_of, put_commit};
 use crate::delete::{DELETE, Delete, delete_of, put_delete};
-use crate::fault::OutFault;
+use crate::fault::PgoutputError;
 use crate::insert::{INSERT, Insert, insert_of, put_insert};
 use crate::message::{MESSAGE, Message, message_of, put_message};
 use crate::relation::{RELATION, Relation, put_relation, relation_of};
@@ -38,9 +38,9 @@ pub enum Logical {
 /// The message that the bytes spell, all of them.
 ///
 /// The leftmost fault is answered: O1 where the bytes end inside a field, O2 where no message has the first byte, O3 at
-/// a letter, flag, count or length that is none of its field, O4 at a text that isn't UTF-8, O5 at bytes behind the
+/// a letter, flag, count or length that is none of its field, O4 at a text that isn't UTF-8, O5 at bytes after the
 /// message; or O6, out of memory.
-pub fn read_logical(alloc: Global, bytes: &[u8]) -> Result<Logical, OutFault>
+pub fn read_logical(alloc: Global, bytes: &[u8]) -> Result<Logical, PgoutputError>
     // What is read is spelled so.
     ensures found { IfOk result (λ m. SpellsLogical bytes.now m) }
     // What is spelled is read, unless memory runs out.
@@ -48,29 +48,29 @@ pub fn read_logical(alloc: Global, bytes: &[u8]) -> Result<Logical, OutFault>
     // A fault stands in the bytes.
     ensures fault { IfErr result (λ e. Stands e bytes.now) }
     // And where a fault stands it is answered, unless memory runs out before it.
-    ensures refused { (e : OutFault) → e ≢ OutFault.Memory → Stands e bytes.now →
-        (result ≡ Err e) ⊎ (result ≡ Err OutFault.Memory) }
-    // A proper beginning of a message is O1, so every other fault stands where no bytes behind it make a message.
+    ensures refused { (e : PgoutputError) → e ≢ PgoutputError.Memory → Stands e bytes.now →
+        (result ≡ Err e) ⊎ (result ≡ Err PgoutputError.Memory) }
+    // A proper beginning of a message is O1, so every other fault stands where no bytes after it make a message.
     ensures cut { (text more : List ℕ) (m : Logical) → SpellsLogical text m →
         text ≡ bytes.now ++ more → more ≢ [] →
-        (result ≡ Err OutFault.Short) ⊎ (result ≡ Err OutFault.Memory) }
+        (result ≡ Err PgoutputError.Short) ⊎ (result ≡ Err PgoutputError.Memory) }
     // Behind whole fields of a message its next one isn't there whole, or another letter, flag, count or length stands there, or a
     // text that isn't UTF-8.
-    ensures short { result ≡ Err OutFault.Short → StopsIn OutFault.Short bytes.now }
-    ensures bad { result ≡ Err OutFault.BadMark → StopsIn OutFault.BadMark bytes.now }
-    ensures text { result ≡ Err OutFault.BadText → StopsIn OutFault.BadText bytes.now }
+    ensures short { result ≡ Err PgoutputError.Short → StopsIn PgoutputError.Short bytes.now }
+    ensures bad { result ≡ Err PgoutputError.BadMark → StopsIn PgoutputError.BadMark bytes.now }
+    ensures text { result ≡ Err PgoutputError.BadText → StopsIn PgoutputError.BadText bytes.now }
     // And where that is so it is answered, unless memory runs out before it.
-    ensures stopped { (e : OutFault) → StopsIn e bytes.now →
-        (result ≡ Err e) ⊎ (result ≡ Err OutFault.Memory) }
+    ensures stopped { (e : PgoutputError) → StopsIn e bytes.now →
+        (result ≡ Err e) ⊎ (result ≡ Err PgoutputError.Memory) }
     // Which fault it is, in the order in which the fields are judged.
     ensures exact { Answers result (whole_of bytes.now) }
 {
     whole(alloc, bytes)
 }
 
-fn whole(alloc: Global, bytes: &[u8]) -> Result<Logical, OutFault>
+fn whole(alloc: Global, bytes: &[u8]) -> Result<Logical, PgoutputError>
     ensures exact { Answers result (whole_of bytes.now) }
-    ensures memory { result ≡ Err OutFault.Memory → Stands OutFault.Memory bytes.now }
+    ensures memory { result ≡ Err PgoutputError.Memory → Stands PgoutputError.Memory bytes.now }
 {
     let mut cursor = Cursor::new(bytes);
     let message = logical_of(alloc, &mut cursor)?;
@@ -78,29 +78,29 @@ fn whole(alloc: Global, bytes: &[u8]) -> Result<Logical, OutFault>
         return Ok(message);
     }
     drop(message);
-    Err(OutFault::Trailing)
+    Err(PgoutputError::Trailing)
 }
 
 #[tactic(auto, unfolding(crate::specs::Logical::logical_at))]
-fn logical_of(alloc: Global, cursor: &mut Cursor<'_>) -> Result<Logical, OutFault>
+fn logical_of(alloc: Global, cursor: &mut Cursor<'_>) -> Result<Logical, PgoutputError>
     ensures exact { Gives result cursor.new (logical_at cursor.old) }
-    ensures memory { result ≡ Err OutFault.Memory → Stands OutFault.Memory cursor.old }
+    ensures memory { result ≡ Err PgoutputError.Memory → Stands PgoutputError.Memory cursor.old }
 {
     let kind = next_kind(cursor)?;
     fields_of(alloc, kind, cursor)
 }
 
-fn next_kind(cursor: &mut Cursor<'_>) -> Result<u8, OutFault>
+fn next_kind(cursor: &mut Cursor<'_>) -> Result<u8, PgoutputError>
     ensures exact { Gives result cursor.new (short (byte_at cursor.old)) }
-    ensures steady { result ≢ Err OutFault.Memory }
+    ensures steady { result ≢ Err PgoutputError.Memory }
 {
-    cursor.u8().ok_or(OutFault::Short)
+    cursor.u8().ok_or(PgoutputError::Short)
 }
 
-/// The fields behind a kind byte.
-fn fields_of(alloc: Global, kind: u8, cursor: &mut Cursor<'_>) -> Result<Logical, OutFault>
+/// The fields after a kind byte.
+fn fields_of(alloc: Global, kind: u8, cursor: &mut Cursor<'_>) -> Result<Logical, PgoutputError>
     ensures exact { Gives result cursor.new (fields_at kind cursor.old) }
-    ensures memory { result ≡ Err OutFault.Memory → needs_memory kind ≡ true }
+    ensures memory { result ≡ Err PgoutputError.Memory → needs_memory kind ≡ true }
 {
     match kind {
         BEGIN => Ok(Logical::Begin(begin_of(cursor)?)),
@@ -111,7 +111,7 @@ fn fields_of(alloc: Global, kind: u8, cursor: &mut Cursor<'_>) -> Result<Logical
         DELETE => Ok(Logical::Delete(delete_of(alloc, cursor)?)),
         TRUNCATE => Ok(Logical::Truncate(truncate_of(alloc, cursor)?)),
         MESSAGE => Ok(Logical::Message(message_of(alloc, cursor)?)),
-        _ => Err(OutFault::UnknownKind),
+        _ => Err(PgoutputError::UnknownKind),
     }
 }
 
@@ -134,7 +134,7 @@ fn put_logical(out: &mut BytesMut, message: &Logical) -> Result<(), AllocError>
     put_fields(out, message)
 }
 
-/// Adds the fields behind the kind byte.
+/// Adds the fields after the kind byte.
 fn put_fields(out: &mut BytesMut, message: &Logical) -> Result<(), AllocError>
     requires { IsShort message.now }
     ensures { Puts result out.old.items out.new.items ((form_of message.now).fields) }
@@ -173,13 +173,13 @@ pub fn no_message_has_two_spellings()
         spell_logical m ++ x ≡ spell_logical n ++ y → (m ≡ n) × (x ≡ y) }
 {}
 
-/// The law of the layouts, by which O1, O3 and O4 are told: the fields of a message, one behind the other, are its spelling.
+/// The law of the layouts, by which O1, O3 and O4 are told: the fields of a message, one after the other, are its spelling.
 pub fn a_message_is_its_fields()
     ensures { (m : Logical) → spell_fields (fields_of m) ≡ spell_logical m }
 {}
 
 /// The law of what is at fault: where O3 or O4 stands, no message begins with the bytes, whatever follows them.
 pub fn no_message_goes_on()
-    ensures { (bytes more : List ℕ) (e : OutFault) (m : Logical) → e ≢ OutFault.Short →
+    ensures { (bytes more : List ℕ) (e : PgoutputError) (m : Logical) → e ≢ PgoutputError.Short →
         StopsIn e bytes → FitsLogical m → spell_logical m ≡ bytes ++ more → ⊥ }
 {}

@@ -5,7 +5,7 @@ ghost use Rattle.pqformat.specs.Putting.{Puts};
 ghost use Rattle.pgoutput.specs.Reading.{Gives};
 ghost use Rattle.pgoutput.specs.Message.{content_at, message, message_at, message_flags, HasShortContent};
 
-use crate::fault::OutFault;
+use crate::fault::PgoutputError;
 use crate::fields::{count32_of, name_of, number64_of};
 use crate::letter::told_of;
 use bytes::BytesMut;
@@ -36,9 +36,9 @@ pub struct Message {
     pub content: Items<u8>,
 }
 
-/// The fields of Message, which stand behind its kind byte, or the fault at which they stop.
+/// The fields of Message, which stand after its kind byte, or the fault at which they stop.
 #[tactic(auto, unfolding(crate::specs::Message::message_at))]
-pub fn message_of(alloc: Global, cursor: &mut Cursor<'_>) -> Result<Message, OutFault>
+pub fn message_of(alloc: Global, cursor: &mut Cursor<'_>) -> Result<Message, PgoutputError>
     ensures { Gives result cursor.new (message_at cursor.old) }
 {
     let is_transactional = told_of::<bool>(cursor)?;
@@ -53,17 +53,17 @@ pub fn message_of(alloc: Global, cursor: &mut Cursor<'_>) -> Result<Message, Out
     })
 }
 
-/// The bytes behind a length, whatever they are.
+/// The bytes after a length, whatever they are.
 #[tactic(auto, unfolding(crate::specs::Message::content_at))]
-fn content_of(alloc: Global, cursor: &mut Cursor<'_>) -> Result<Items<u8>, OutFault>
+fn content_of(alloc: Global, cursor: &mut Cursor<'_>) -> Result<Items<u8>, PgoutputError>
     ensures { Gives result cursor.new (content_at cursor.old) }
 {
     let len = count32_of(cursor)?;
-    let bytes = cursor.take(len as usize).ok_or(OutFault::Short)?;
+    let bytes = cursor.take(len as usize).ok_or(PgoutputError::Short)?;
     Ok(Items::new(Vec::from_slice(alloc, bytes)?))
 }
 
-/// Adds the fields of Message, behind its kind byte. Where memory is refused, some of them may have been added.
+/// Adds the fields of Message, after its kind byte. Where memory is refused, some of them may have been added.
 #[tactic(auto, using(pqformat::proofs::Putting::in_place))]
 pub fn put_message(out: &mut BytesMut, told: &Message) -> Result<(), AllocError>
     requires { HasShortContent told.now }

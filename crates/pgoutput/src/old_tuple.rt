@@ -5,7 +5,7 @@ ghost use Rattle.pqformat.specs.Putting.{Puts};
 ghost use Rattle.pgoutput.specs.Reading.{Gives};
 ghost use Rattle.pgoutput.specs.OldTuple.{old_tuple, old_tuple_at, IsShortOldTuple};
 
-use crate::fault::OutFault;
+use crate::fault::PgoutputError;
 use crate::fields::byte_of;
 use crate::tuple::{Cell, put_tuple, tuple_of};
 use bytes::BytesMut;
@@ -33,13 +33,16 @@ pub enum OldTuple {
 }
 
 #[tactic(auto, unfolding(crate::specs::OldTuple::old_tuple_at))]
-pub(crate) fn old_tuple_of(alloc: Global, cursor: &mut Cursor<'_>) -> Result<OldTuple, OutFault>
+pub(crate) fn old_tuple_of(
+    alloc: Global,
+    cursor: &mut Cursor<'_>,
+) -> Result<OldTuple, PgoutputError>
     ensures { Gives result cursor.new (old_tuple_at cursor.old) }
 {
     match byte_of(cursor)? {
         KEY => Ok(OldTuple::Key(tuple_of(alloc, cursor)?)),
         OLD => Ok(OldTuple::Full(tuple_of(alloc, cursor)?)),
-        _ => Err(OutFault::BadMark),
+        _ => Err(PgoutputError::BadMark),
     }
 }
 

@@ -5,7 +5,7 @@ ghost use Rattle.pqformat.specs.Putting.{Puts};
 ghost use Rattle.pgoutput.specs.Reading.{Gives};
 ghost use Rattle.pgoutput.specs.Relation.{identity_letter, column_at, columns_at, relation, relation_at, IsShortRelation};
 
-use crate::fault::OutFault;
+use crate::fault::PgoutputError;
 use crate::fields::{count16_of, name_of, number32_of, put_signed32, signed32_of};
 use crate::letter::{Letter, told_of};
 use crate::list::{PutItem, ReadItem, items_of, put_items};
@@ -67,9 +67,9 @@ pub struct Column {
     pub modifier: i32,
 }
 
-/// The fields of Relation, which stand behind its kind byte, or the fault at which they stop.
+/// The fields of Relation, which stand after its kind byte, or the fault at which they stop.
 #[tactic(auto, unfolding(crate::specs::Relation::relation_at))]
-pub fn relation_of(alloc: Global, cursor: &mut Cursor<'_>) -> Result<Relation, OutFault>
+pub fn relation_of(alloc: Global, cursor: &mut Cursor<'_>) -> Result<Relation, PgoutputError>
     ensures { Gives result cursor.new (relation_at cursor.old) }
 {
     let oid = number32_of(cursor)?;
@@ -103,7 +103,7 @@ impl Letter for Identity {
 }
 
 #[tactic(auto, unfolding(crate::specs::Relation::columns_at))]
-fn columns_of(alloc: Global, cursor: &mut Cursor<'_>) -> Result<Items<Column>, OutFault>
+fn columns_of(alloc: Global, cursor: &mut Cursor<'_>) -> Result<Items<Column>, PgoutputError>
     ensures { Gives result cursor.new (columns_at cursor.old) }
 {
     let count = count16_of(cursor)?;
@@ -111,7 +111,7 @@ fn columns_of(alloc: Global, cursor: &mut Cursor<'_>) -> Result<Items<Column>, O
 }
 
 #[tactic(auto, unfolding(crate::specs::Relation::column_at))]
-fn column_of(alloc: Global, cursor: &mut Cursor<'_>) -> Result<Column, OutFault>
+fn column_of(alloc: Global, cursor: &mut Cursor<'_>) -> Result<Column, PgoutputError>
     ensures { Gives result cursor.new (column_at cursor.old) }
 {
     let is_key = told_of::<bool>(cursor)?;
@@ -126,7 +126,7 @@ fn column_of(alloc: Global, cursor: &mut Cursor<'_>) -> Result<Column, OutFault>
     })
 }
 
-/// Adds the fields of Relation, behind its kind byte. Where memory is refused, some of them may have been added.
+/// Adds the fields of Relation, after its kind byte. Where memory is refused, some of them may have been added.
 #[tactic(auto, using(pqformat::proofs::Putting::in_place))]
 pub fn put_relation(out: &mut BytesMut, message: &Relation) -> Result<(), AllocError>
     requires { IsShortRelation message.now }
@@ -158,7 +158,7 @@ impl ReadItem for Column {
 
     ghost item_at = { column_at };
 
-    fn read(alloc: Global, cursor: &mut Cursor<'_>) -> Result<Column, OutFault> {
+    fn read(alloc: Global, cursor: &mut Cursor<'_>) -> Result<Column, PgoutputError> {
         column_of(alloc, cursor)
     }
 }

@@ -7,7 +7,7 @@ ghost use Rattle.std.specs.List.{flat_map};
 ghost use Rattle.pgoutput.specs.Reading.{Gives};
 ghost use Rattle.pgoutput.specs.Truncate.{truncate, truncate_at, options_letter, IsShortTruncate};
 
-use crate::fault::OutFault;
+use crate::fault::PgoutputError;
 use crate::fields::{count32_of, number32_of};
 use crate::letter::{Letter, told_of};
 use crate::list::{PutItem, ReadItem, items_of, put_each};
@@ -46,9 +46,9 @@ pub struct TruncateOptions {
     pub restart_identity: bool,
 }
 
-/// The fields of Truncate, which stand behind its kind byte, or the fault at which they stop.
+/// The fields of Truncate, which stand after its kind byte, or the fault at which they stop.
 #[tactic(auto, unfolding(crate::specs::Truncate::truncate_at))]
-pub fn truncate_of(alloc: Global, cursor: &mut Cursor<'_>) -> Result<Truncate, OutFault>
+pub fn truncate_of(alloc: Global, cursor: &mut Cursor<'_>) -> Result<Truncate, PgoutputError>
     ensures { Gives result cursor.new (truncate_at cursor.old) }
 {
     let count = count32_of(cursor)?;
@@ -88,7 +88,7 @@ fn letter_of(options: TruncateOptions) -> u8
     }
 }
 
-/// Adds the fields of Truncate, behind its kind byte. Where memory is refused, some of them may have been added.
+/// Adds the fields of Truncate, after its kind byte. Where memory is refused, some of them may have been added.
 #[tactic(auto, using(pqformat::proofs::Putting::in_place))]
 pub fn put_truncate(out: &mut BytesMut, message: &Truncate) -> Result<(), AllocError>
     requires { IsShortTruncate message.now }
@@ -108,7 +108,7 @@ impl ReadItem for u32 {
 
     ghost item_at = { oid_at };
 
-    fn read(_alloc: Global, cursor: &mut Cursor<'_>) -> Result<u32, OutFault> {
+    fn read(_alloc: Global, cursor: &mut Cursor<'_>) -> Result<u32, PgoutputError> {
         number32_of(cursor)
     }
 }

@@ -5,7 +5,7 @@ ghost use Rattle.pqformat.specs.Putting.{Puts};
 ghost use Rattle.pgoutput.specs.Reading.{Gives};
 ghost use Rattle.pgoutput.specs.Tuple.{cell_at, sent_cell_at, sent_tuple_at, tuple, tuple_at, IsShortTuple};
 
-use crate::fault::OutFault;
+use crate::fault::PgoutputError;
 use crate::fields::{byte_of, count16_of, put_text, text_of};
 use crate::list::{PutItem, ReadItem, items_of, put_items};
 use bytes::BytesMut;
@@ -35,31 +35,31 @@ pub enum Cell {
 }
 
 #[tactic(auto, unfolding(crate::specs::Tuple::cell_at))]
-fn cell_of(alloc: Global, cursor: &mut Cursor<'_>) -> Result<Cell, OutFault>
+fn cell_of(alloc: Global, cursor: &mut Cursor<'_>) -> Result<Cell, PgoutputError>
     ensures { Gives result cursor.new (cell_at cursor.old) }
 {
     match byte_of(cursor)? {
         NULL => Ok(Cell::Null),
         UNCHANGED => Ok(Cell::Unchanged),
         TEXT => Ok(Cell::Text(text_of(alloc, cursor)?)),
-        _ => Err(OutFault::BadMark),
+        _ => Err(PgoutputError::BadMark),
     }
 }
 
 /// A cell of an Insert, whose value is sent: null, or a text.
 #[tactic(auto, unfolding(crate::specs::Tuple::sent_cell_at))]
-fn sent_cell_of(alloc: Global, cursor: &mut Cursor<'_>) -> Result<Cell, OutFault>
+fn sent_cell_of(alloc: Global, cursor: &mut Cursor<'_>) -> Result<Cell, PgoutputError>
     ensures { Gives result cursor.new (sent_cell_at cursor.old) }
 {
     match byte_of(cursor)? {
         NULL => Ok(Cell::Null),
         TEXT => Ok(Cell::Text(text_of(alloc, cursor)?)),
-        _ => Err(OutFault::BadMark),
+        _ => Err(PgoutputError::BadMark),
     }
 }
 
 #[tactic(auto, unfolding(crate::specs::Tuple::tuple_at))]
-pub(crate) fn tuple_of(alloc: Global, cursor: &mut Cursor<'_>) -> Result<Items<Cell>, OutFault>
+pub(crate) fn tuple_of(alloc: Global, cursor: &mut Cursor<'_>) -> Result<Items<Cell>, PgoutputError>
     ensures { Gives result cursor.new (tuple_at cursor.old) }
 {
     let count = count16_of(cursor)?;
@@ -68,7 +68,10 @@ pub(crate) fn tuple_of(alloc: Global, cursor: &mut Cursor<'_>) -> Result<Items<C
 
 /// The tuple of an Insert, of which every value is sent.
 #[tactic(auto, unfolding(crate::specs::Tuple::sent_tuple_at))]
-pub(crate) fn sent_tuple_of(alloc: Global, cursor: &mut Cursor<'_>) -> Result<Items<Cell>, OutFault>
+pub(crate) fn sent_tuple_of(
+    alloc: Global,
+    cursor: &mut Cursor<'_>,
+) -> Result<Items<Cell>, PgoutputError>
     ensures { Gives result cursor.new (sent_tuple_at cursor.old) }
 {
     let count = count16_of(cursor)?;
@@ -89,7 +92,7 @@ impl ReadItem for Cell {
 
     ghost item_at = { cell_at };
 
-    fn read(alloc: Global, cursor: &mut Cursor<'_>) -> Result<Cell, OutFault> {
+    fn read(alloc: Global, cursor: &mut Cursor<'_>) -> Result<Cell, PgoutputError> {
         cell_of(alloc, cursor)
     }
 }
@@ -104,7 +107,7 @@ impl ReadItem for SentCell {
 
     ghost item_at = { sent_cell_at };
 
-    fn read(alloc: Global, cursor: &mut Cursor<'_>) -> Result<Cell, OutFault> {
+    fn read(alloc: Global, cursor: &mut Cursor<'_>) -> Result<Cell, PgoutputError> {
         sent_cell_of(alloc, cursor)
     }
 }

@@ -5,7 +5,7 @@ ghost use Rattle.pqformat.specs.Putting.{Puts};
 ghost use Rattle.pgoutput.specs.Reading.{Gives};
 ghost use Rattle.pgoutput.specs.Update.{update, update_at, old_if_any, rows_at, tuples_at, IsShortIfAny, IsShortUpdate};
 
-use crate::fault::OutFault;
+use crate::fault::PgoutputError;
 use crate::fields::{byte_of, expected_of, number32_of};
 use crate::insert::NEW;
 use crate::old_tuple::{KEY, OLD, OldTuple, put_old_tuple};
@@ -33,9 +33,9 @@ pub struct Update {
     pub new: Items<Cell>,
 }
 
-/// The fields of Update, which stand behind its kind byte, or the fault at which they stop.
+/// The fields of Update, which stand after its kind byte, or the fault at which they stop.
 #[tactic(auto, unfolding(crate::specs::Update::update_at))]
-pub fn update_of(alloc: Global, cursor: &mut Cursor<'_>) -> Result<Update, OutFault>
+pub fn update_of(alloc: Global, cursor: &mut Cursor<'_>) -> Result<Update, PgoutputError>
     ensures { Gives result cursor.new (update_at cursor.old) }
 {
     let oid = number32_of(cursor)?;
@@ -48,7 +48,7 @@ pub fn update_of(alloc: Global, cursor: &mut Cursor<'_>) -> Result<Update, OutFa
 fn rows_of(
     alloc: Global,
     cursor: &mut Cursor<'_>,
-) -> Result<(Option<OldTuple>, Items<Cell>), OutFault>
+) -> Result<(Option<OldTuple>, Items<Cell>), PgoutputError>
     ensures { Gives result cursor.new (rows_at cursor.old) }
 {
     match byte_of(cursor)? {
@@ -61,13 +61,16 @@ fn rows_of(
             let (old, new) = tuples_of(alloc, cursor)?;
             Ok((Some(OldTuple::Full(old)), new))
         }
-        _ => Err(OutFault::BadMark),
+        _ => Err(PgoutputError::BadMark),
     }
 }
 
-/// The cells of the old row, and those of the new one behind its letter.
+/// The cells of the old row, and those of the new one after its letter.
 #[tactic(auto, unfolding(crate::specs::Update::tuples_at))]
-fn tuples_of(alloc: Global, cursor: &mut Cursor<'_>) -> Result<(Items<Cell>, Items<Cell>), OutFault>
+fn tuples_of(
+    alloc: Global,
+    cursor: &mut Cursor<'_>,
+) -> Result<(Items<Cell>, Items<Cell>), PgoutputError>
     ensures { Gives result cursor.new (tuples_at cursor.old) }
 {
     let old = tuple_of(alloc, cursor)?;
@@ -76,7 +79,7 @@ fn tuples_of(alloc: Global, cursor: &mut Cursor<'_>) -> Result<(Items<Cell>, Ite
     Ok((old, new))
 }
 
-/// Adds the fields of Update, behind its kind byte. Where memory is refused, some of them may have been added.
+/// Adds the fields of Update, after its kind byte. Where memory is refused, some of them may have been added.
 #[tactic(auto, using(pqformat::proofs::Putting::in_place))]
 pub fn put_update(out: &mut BytesMut, message: &Update) -> Result<(), AllocError>
     requires { IsShortUpdate message.now }

@@ -67,12 +67,12 @@ pub record Codec {A E : Type 0} (read : List ℕ → Result (A × List ℕ) E) (
   pub takes : (bytes : List ℕ) (x : A) (rest : List ℕ) → IsBytes bytes → read bytes ≡ Ok (x, rest) → Takes bytes (text x) rest × Fits x
   pub again : (x : A) (rest : List ℕ) → Fits x → read (text x ++ rest) ≡ Ok (x, rest)
 
--- the same behind fields that were read already: Known says what they were
+-- the same after fields that were read already: Known says what they were
 pub record Part {M E : Type 0} (read : List ℕ → Result (M × List ℕ) E) (Known : M → Type 0) (text : M → List ℕ) (Fits : M → Type 0) : Type 0 where
   pub takes : (bytes : List ℕ) (m : M) (rest : List ℕ) → IsBytes bytes → read bytes ≡ Ok (m, rest) → Takes bytes (text m) rest × Fits m × Known m
   pub again : (m : M) (rest : List ℕ) → Known m → Fits m → read (text m ++ rest) ≡ Ok (m, rest)
 
--- a field p of a message, and the fields behind it
+-- a field p of a message, and the fields after it
 pub field : {A M E : Type 0} {f : List ℕ → Result (A × List ℕ) E} {ft : A → List ℕ} {F : A → Type 0} → Codec f ft F
     → (p : M → A) (Known : M → Type 0) (k : A → List ℕ → Result (M × List ℕ) E) (text : M → List ℕ) (Fits : M → Type 0)
     → ((a : A) → Part (k a) (λ m. (p m ≡ a) × Known m) text Fits)
@@ -179,7 +179,7 @@ counted {M} {E} {f} {ft} {F} c size read text Fits after =
       again = λ m rest known fits. (after n).again m rest (known.0, fits);
     }))
 
--- n of them, one behind the other
+-- n of them, one after the other
 repeat_takes : {A E : Type 0} {f : List ℕ → Result (A × List ℕ) E} {t : A → List ℕ} {F : A → Type 0} (c : Codec f t F) (n : ℕ) (bytes : List ℕ) (xs : List A) (rest : List ℕ)
     → IsBytes bytes → repeat_at f n bytes ≡ Ok (xs, rest) → Takes bytes (flat_map t xs) rest × ((length xs ≡ n) × AllByRecursion F xs)
 unfolding repeat_at

@@ -23,7 +23,7 @@ same_found a b c d e =
     let both : two a b ≡ two c d = cc in
     (ap (λ (x : List ℕ × List ℕ). x.0) both, ap (λ (x : List ℕ × List ℕ). x.1) both)
 
--- a text that goes on behind one byte
+-- a text that goes on after one byte
 behind : (b : ℕ) (o : Option (List ℕ × List ℕ)) (n rest : List ℕ) → in_front (b ∷ []) o ≡ found n rest → (m : List ℕ) × (o ≡ found m rest) × (n ≡ b ∷ m)
 behind b None n rest e = absurd cc
 behind b (Some x) n rest e =

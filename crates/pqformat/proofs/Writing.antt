@@ -1,4 +1,4 @@
--- Texts that are written one behind the other into a slice.
+-- Texts that are written one after the other into a slice.
 use Rattle.std.proofs.Common.{◌≡◌, ℕ, zero, suc, ◌+◌, ◌<◌, ◌≤◌, List, [], ◌∷◌, ◌++◌, length, take, refl, sym, ap, ◌∙◌, append_assoc, append-nil, arith}
 use Rattle.std.proofs.lemmas.List.{length-append}
 use Rattle.pqformat.specs.Writing.{FitsRoom, Writes}

@@ -22,14 +22,14 @@ begins is (b ∷ bytes) = is b
 abbrev pub in_front : List ℕ → Option (List ℕ × List ℕ) → Option (List ℕ × List ℕ)
 in_front front found = option_map (λ x. (front ++ x.0, x.1)) found
 
--- behind the opening quote: the text up to the closing one, and what follows it; the flag says that a quote was just read
+-- after the opening quote: the text up to the closing one, and what follows it; the flag says that a quote was just read
 abbrev pub quoted_at : Bool → ℕ → List ℕ → Option (List ℕ × List ℕ)
 quoted_at false quote [] = None
 quoted_at true quote [] = Some ([], [])
 quoted_at false quote (b ∷ bytes) = if b == quote then quoted_at true quote bytes else in_front (b ∷ []) (quoted_at false quote bytes)
 quoted_at true quote (b ∷ bytes) = if b == quote then in_front (b ∷ []) (quoted_at false quote bytes) else Some ([], b ∷ bytes)
 
--- what a reader made, and the text behind it that it lends
+-- what a reader made, and the text after it that it lends
 abbrev pub lent_text : Option (List ℕ × Bor (List ℕ)) → Option (List ℕ × List ℕ)
 lent_text found = option_map (λ x. (x.0, x.1.now)) found
 

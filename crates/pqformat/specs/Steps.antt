@@ -30,7 +30,7 @@ count_at short other w limit bytes = ok_or (number_at w bytes) short >>= λ n. i
 abbrev pub signed_at : {E : Type 0} → E → Width → List ℕ → Result (ℤ × List ℕ) E
 signed_at short w bytes = ok_or (number_at w bytes) short >>= λ n. Ok (cast_signed w n.0, n.1)
 
--- n of them, one behind the other
+-- n of them, one after the other
 unfoldable pub repeat_at : {A E : Type 0} → (List ℕ → Result (A × List ℕ) E) → ℕ → List ℕ → Result (List A × List ℕ) E
 repeat_at f zero bytes = Ok ([], bytes)
 repeat_at f (suc n) bytes = do

@@ -1,7 +1,7 @@
 -- What a writer does to a slice that has room.
 use Rattle.std.specs.Prelude.{◌≡◌, ℕ, ◌+◌, ◌<◌, ◌≤◌, ◌^◌, List, ◌++◌, length, take}
 
--- The text stands at the place, behind what stood before it there, and ends here. Nothing is told of what stands behind it.
+-- The text stands at the place, after what stood before it there, and ends here. Nothing is told of what stands after it.
 pub record Writes (at to : ℕ) (old new text : List ℕ) : Type 0 where
   pub ends : to ≡ at + length text
   pub front : take to new ≡ take at old ++ text

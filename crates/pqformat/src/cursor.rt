@@ -11,7 +11,7 @@ use std::str;
 /// Reads fields from the front of a message, and copies nothing. Contracts see the bytes that are left.
 ///
 /// `new` on the message's bytes; then one call a field, in the order of the message: `Some` is the field, and the cursor
-/// stands behind it; `None` is that it isn't there whole, and the cursor stands where it stood. At last `rest`, which is
+/// stands after it; `None` is that it isn't there whole, and the cursor stands where it stood. At last `rest`, which is
 /// empty where nothing follows the message.
 #[derive(Debug, Drop)]
 pub struct Cursor<'a> {

@@ -1,5 +1,13 @@
 //! The fields of messages, read from the front of bytes and written at the end of a buffer or into a slice; and texts in quotes,
 //! in which a quote that is meant stands twice.
+//!
+//! `Cursor` lends the fields of a body one after the other, or says why the next isn't there; `write_` calls add fields at the
+//! end of a buffer, and `put_` calls put them into room that is there already. `Text` and `Items` are the text and the list that
+//! messages own.
+//!
+//! Read `cursor.rt`, `write.rt`, then `text.rt`; `put.rt` is `write.rt` without memory; `quoted.rt` is apart. Above, each reader
+//! and writer of a message stands on one contract of each field: what `Cursor` gives are the bytes that the call of the same
+//! name writes, and after a fault nothing has moved.
 #![tactic(auto)]
 
 mod cursor;

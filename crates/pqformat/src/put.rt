@@ -61,7 +61,7 @@ pub fn put_string(out: &mut BytesMut, text: &str) -> Result<(), AllocError>
     whole_or_nothing(put_byte(out, 0), start, out)
 }
 
-/// What a writer in place answered; where it was refused, what it added behind `start` is cut off.
+/// What a writer in place answered; where it was refused, what it added after `start` is cut off.
 pub fn whole_or_nothing(
     written: Result<(), AllocError>,
     start: usize,

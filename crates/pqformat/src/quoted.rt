@@ -1,11 +1,11 @@
-//! A text in quotes, from behind the quote that opens it.
+//! A text in quotes, from after the quote that opens it.
 
 ghost use Rattle.std.specs.Prelude.{◌≡◌, ◌≤◌, ◌∷◌, [], IfOk, IfSome, Some, MatchOption, length, false};
 ghost use Rattle.pqformat.specs.Quoting.{in_front, lent_items, quoted_at};
 
 use std::alloc::{AllocError, Global};
 
-/// Where a text in quotes goes on behind this byte: a quote goes on behind the second of two, and else closes the text.
+/// Where a text in quotes goes on after this byte: a quote goes on after the second of two, and else closes the text.
 fn goes_on(quote: u8, b: u8, tail: &[u8]) -> Option<&[u8]>
     ensures goes { MatchOption result (quoted_at false quote (b ∷ tail.now) ≡ Some ([], tail.now))
         (λ more. quoted_at false quote (b ∷ tail.now)

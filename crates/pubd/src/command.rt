@@ -8,7 +8,7 @@ use command_line::{CommandLine, Word, WordForm, WordsFault};
 use std::alloc::{AllocError, Global};
 
 /// The words: those that may be left out, those that have to be there, and scripts.
-const WORDS: [Word<'static>; 15] = [
+const WORDS: [Word<'static>; 20] = [
     Word {
         name: "await-streams",
         form: WordForm::Option("N"),
@@ -28,6 +28,21 @@ const WORDS: [Word<'static>; 15] = [
         name: "max-connections",
         form: WordForm::Option("N"),
         help: "Serve so many connections at once, and refuse more: 100 unless it is given",
+    },
+    Word {
+        name: "max-replication-slots",
+        form: WordForm::Option("N"),
+        help: "Let there be so many slots at once, and refuse more (53400): 16 unless it is given, at most 1024",
+    },
+    Word {
+        name: "max-wal-senders",
+        form: WordForm::Option("N"),
+        help: "Let so many streams run at once, and refuse more (53400): 16 unless it is given, at most 1024",
+    },
+    Word {
+        name: "max-slot-keep",
+        form: WordForm::Option("RECORDS"),
+        help: "Give a slot up that holds more records of the log: its stream ends (57P01), and none of it begins any more (55000). Without it a slot that lags fills the log",
     },
     Word {
         name: "logical-decoding-work-mem",
@@ -55,9 +70,19 @@ const WORDS: [Word<'static>; 15] = [
         help: "Let a stream start ahead of all that its slot has confirmed and sent, which is refused otherwise (55000): such a position is of another run",
     },
     Word {
+        name: "passwords",
+        form: WordForm::Option("FILE"),
+        help: "Let only those connect that have a line in FILE, as --password-of prints it, and prove that they know its password",
+    },
+    Word {
         name: "keep-serving",
         form: WordForm::Flag,
         help: "Serve on where the standard input ends, with forever and -",
+    },
+    Word {
+        name: "end-on-sigterm",
+        form: WordForm::Flag,
+        help: "End in order at a SIGTERM, which whoever starts it has to block, as env --block-signal=TERM does: streams send what is left and CopyDone",
     },
     Word {
         name: "password-of",
@@ -121,12 +146,17 @@ fn words_in<'a>(alloc: Global, matches: &ArgMatches<'a>) -> Result<Words<'a>, Al
         silence: matches.get_str("wal-sender-timeout"),
         startup: matches.get_str("authentication-timeout"),
         at_once: matches.get_str("max-connections"),
+        slots: matches.get_str("max-replication-slots"),
+        senders: matches.get_str("max-wal-senders"),
+        slot_keep: matches.get_str("max-slot-keep"),
         work_memory: matches.get_str("logical-decoding-work-mem"),
         messages: matches.get_str("log-min-messages"),
         status: matches.get_str("status"),
         answers_postgresql: matches.get_flag("answer-postgresql"),
         allows_start_ahead: matches.get_flag("allow-start-ahead"),
         keeps_serving: matches.get_flag("keep-serving"),
+        ends_on_sigterm: matches.get_flag("end-on-sigterm"),
+        passwords: matches.get_str("passwords"),
         password_of: matches.get_str("password-of"),
         scripts: scripts_in(alloc, matches)?,
     })

@@ -32,6 +32,9 @@ pub enum NumberFault {
     Silence,
     Startup,
     AtOnce,
+    Slots,
+    Senders,
+    SlotKeep,
     WorkMemory,
     Level,
 }
@@ -45,12 +48,15 @@ impl NumberFault {
             NumberFault::Connections => "CONNECTIONS is a number from 0 to 1000, or forever",
             NumberFault::Awaited => "N of --await-streams is a number from 0 to 4294967295",
             NumberFault::Silence => {
-                "TIME of --wal-sender-timeout is a number, and ms, s, min, h or d behind it, as in 60s"
+                "TIME of --wal-sender-timeout is a number, and ms, s, min, h or d after it, as in 60s"
             }
             NumberFault::Startup => {
-                "TIME of --authentication-timeout is a number, and ms, s, min, h or d behind it, as in 60s"
+                "TIME of --authentication-timeout is a number, and ms, s, min, h or d after it, as in 60s"
             }
             NumberFault::AtOnce => "N of --max-connections is a number from 1 to 4294967295",
+            NumberFault::Slots => "N of --max-replication-slots is a number from 1 to 1024",
+            NumberFault::Senders => "N of --max-wal-senders is a number from 1 to 1024",
+            NumberFault::SlotKeep => "RECORDS of --max-slot-keep is a number from 1 to 4294967295",
             NumberFault::WorkMemory => {
                 "SIZE of --logical-decoding-work-mem is a number, and kB, MB, GB or TB after it, from 64kB to 2147483647kB"
             }

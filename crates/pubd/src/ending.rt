@@ -1,6 +1,8 @@
-//! The end of the server, and of whoever waits at its doors.
+//! The end of the server, and of whoever waits at its listeners.
 
 use crate::scripting::InputLines;
+use crate::termination::Termination;
+use crate::user_file::UserFile;
 use hub::Hub;
 use shared_log::LogName;
 use slots::SlotName;
@@ -19,14 +21,14 @@ const REST: u64 = 50;
 
 /// Where a listener waits: its address, and a second handle of its socket.
 #[derive(Drop)]
-pub struct Door {
+pub struct ListenerHandle {
     pub address: SocketAddr,
     socket: TcpStream,
 }
 
-impl Door {
+impl ListenerHandle {
     fn of(listener: &TcpListener) -> io::Result<Self> {
-        Ok(Door {
+        Ok(ListenerHandle {
             address: listener.local_addr()?,
             socket: TcpStream::from(OwnedFd::from(listener.try_clone()?)),
         })
@@ -34,7 +36,7 @@ impl Door {
 
     fn of_any(listener: Option<&TcpListener>) -> io::Result<Option<Self>> {
         match listener {
-            Some(listener) => Ok(Some(Door::of(listener)?)),
+            Some(listener) => Ok(Some(ListenerHandle::of(listener)?)),
             None => Ok(None),
         }
     }
@@ -45,12 +47,15 @@ impl Door {
     }
 }
 
-/// The doors of the server: for connections, for who asks what runs, if there is one, and for lines.
+/// The listeners of the server: for connections, for who asks what runs, if there is one, for lines, and for a signal.
 #[derive(Drop)]
-pub struct Doors {
-    pub connections: Door,
-    pub status: Option<Door>,
+pub struct ListenerHandles {
+    pub connections: ListenerHandle,
+    pub status: Option<ListenerHandle>,
     pub input: Arc<InputLines, Global>,
+    pub termination: Arc<Termination, Global>,
+    /// The file of those that may connect, where not everyone may.
+    pub passwords: Option<UserFile>,
     /// Nobody is told any more what runs.
     is_status_over: AtomicBool,
     /// The socket of who is being told what runs.
@@ -59,19 +64,23 @@ pub struct Doors {
     are_connections_over: AtomicBool,
 }
 
-impl Doors {
-    /// The doors at which these listeners wait.
+impl ListenerHandles {
+    /// The listeners at which these threads wait.
     pub fn of(
         alloc: Global,
         connections: &TcpListener,
         status: Option<&TcpListener>,
+        passwords: Option<UserFile>,
     ) -> io::Result<Self> {
-        let status = Door::of_any(status)?;
+        let status = ListenerHandle::of_any(status)?;
         let input = input_of(alloc)?;
-        Ok(Doors {
-            connections: Door::of(connections)?,
+        let termination = Termination::new(alloc)?;
+        Ok(ListenerHandles {
+            connections: ListenerHandle::of(connections)?,
             status,
             input,
+            termination,
+            passwords,
             is_status_over: AtomicBool::new(false),
             asking: Mutex::new(None),
             are_connections_over: AtomicBool::new(false),
@@ -81,8 +90,8 @@ impl Doors {
     /// Ends the page that tells what runs, also where it is being told.
     pub fn close_status<R: Wait>(&self, rt: &R) {
         self.is_status_over.store(true, Ordering::SeqCst);
-        if let Some(door) = &self.status {
-            door.shut();
+        if let Some(listener) = &self.status {
+            listener.shut();
         }
         if let Some(socket) = &*self.asking.lock(rt) {
             let _ = socket.shutdown(Shutdown::Both);
@@ -116,14 +125,14 @@ fn input_of(alloc: Global) -> Result<Arc<InputLines, Global>, AllocError> {
 
 /// Ends the server: no line of the input is done any more; its streams send what is left, and CopyDone. Ten seconds later it closes
 /// the connections that aren't over.
-pub fn end_server<L, R>(rt: &R, hub: &Hub<L>, doors: &Doors)
+pub fn end_server<L, R>(rt: &R, hub: &Hub<L>, listeners: &ListenerHandles)
 where
     L: LogName + SlotName,
     R: Wait + Clock,
 {
     hub.shut_down(rt);
-    doors.input.close(rt);
-    doors.connections.shut();
+    listeners.input.close(rt);
+    listeners.connections.shut();
     for _ in 0..RESTS {
         if hub.is_deserted(rt) {
             return;

@@ -3,6 +3,7 @@
 use crate::command_fault::CommandFault;
 use crate::password::PasswordFault;
 use crate::scripting::ScriptFileFault;
+use crate::user_file::UserFileFault;
 use command_line::{Ending, WordsFault};
 use configuration::ConfigFileFault;
 use hub::HubFault;
@@ -21,11 +22,17 @@ pub enum Fault {
     #[error("{0}")]
     Password(#[from] PasswordFault),
     #[error("{0}")]
+    Users(#[from] UserFileFault),
+    #[error("{0}")]
     Hub(HubFault),
     #[error("no name can be chosen for the system: {0}")]
     System(io::Error),
     #[error("the address cannot be listened at: {0}")]
     Listen(io::Error),
+    #[error("/proc/self/status, where SIGTERM is looked for, cannot be read: {0}")]
+    Signals(io::Error),
+    #[error("--end-on-sigterm wants SIGTERM blocked, as env --block-signal=TERM pubd .. does")]
+    SignalNotBlocked,
     #[error("standard output cannot be used: {0}")]
     Output(io::Error),
     #[error("not all was done")]
@@ -43,13 +50,16 @@ impl Ending for Fault {
             Fault::Config(fault) if fault.is_bad_configuration() => 2,
             Fault::Script(fault) if fault.is_bad_script() => 2,
             Fault::Password(fault) if fault.is_bad_input() => 2,
-            Fault::Hub(HubFault::LongName) => 2,
+            Fault::Hub(HubFault::LongName) | Fault::SignalNotBlocked => 2,
+            Fault::Users(fault) if fault.is_bad_file() => 2,
             Fault::Config(_)
             | Fault::Script(_)
             | Fault::Password(_)
+            | Fault::Users(_)
             | Fault::Hub(HubFault::Memory)
             | Fault::System(_)
             | Fault::Listen(_)
+            | Fault::Signals(_)
             | Fault::Output(_)
             | Fault::EndedEarly
             | Fault::Memory(_) => 1,

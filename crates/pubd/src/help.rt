@@ -1,4 +1,4 @@
-//! What `pubd --help` says in front of its words and behind them.
+//! What `pubd --help` says in front of its words and after them.
 
 use command_line::help_text;
 
@@ -21,7 +21,7 @@ Without a TIME a commit takes the clock's. A text may also be written with escap
 These steer the stream of the slot S, or its next one, for tests of clients:
 
   await S POSITION [SECONDS]
-                           the lines behind wait until S is confirmed at POSITION, as in
+                           the lines after it wait until S is confirmed at POSITION, as in
                            0/1000050; after so many SECONDS it is refused (A1)
   await S stream [SECONDS]
                            the same until a client streams from S
@@ -29,7 +29,8 @@ These steer the stream of the slot S, or its next one, for tests of clients:
   resume S                 it goes on
   ask S                    a keepalive asks the client for an answer
   cut S                    its connection is cut between two frames
-  cut S N                  its connection is cut behind N more bytes
+  cut S N                  its connection is cut after N more bytes
+  reload                   the file of --passwords is read again; a wrong line is refused (A2)
   end                      the server ends: streams send what is left and CopyDone
 
 For example
@@ -38,16 +39,16 @@ For example
 
 prints listening 127.0.0.1:5433, serves one connection, runs the script on a thread of its own
 once that connection's stream has begun, and ends once both have ended. Without --await-streams
-scripts begin at once, and a slot that is created later begins behind what they have committed
+scripts begin at once, and a slot that is created later begins after what they have committed
 by then. A client connects to it as to a walsender of PostgreSQL, with
 replication=database. A line of a script that is refused is printed on the standard error: the
 script's name, the line's number, a code and why, as in load.script 7 S3 a row with this key
 exists. The script then goes on. So is a line that steers, once it is done, with ok alone.
 
 A script that is named - is the standard input. Its lines are done as they come, beside the
-connections, and each is answered on the standard output, in their order: by ok, behind a commit
+connections, and each is answered on the standard output, in their order: by ok, after a commit
 with the position at which it ends, as in ok 0/1000050, or by the code of its refusal and why. While
-a line awaits, lines behind it that steer are done at once, and end ends the wait. So another
+a line awaits, lines after it that steer are done at once, and end ends the wait. So another
 program can drive the server through a pipe:
 
   pubd pubd.toml 127.0.0.1:5433 forever -

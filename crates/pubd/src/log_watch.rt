@@ -3,8 +3,8 @@
 use std::fmt;
 use std::sync::atomic::{AtomicBool, Ordering};
 
-/// Looks at each commit whether nine tenths of the log's places are taken, and says so once: once all are, changes are refused, and
-/// the server can only be started anew.
+/// Looks at each commit whether nine tenths of the log's places are taken, and says so once, until less than half are: once all are,
+/// changes are refused, until the slots that hold them move on.
 #[derive(Drop)]
 pub struct LogWatch {
     /// How many records the log has places for.
@@ -27,9 +27,12 @@ impl LogWatch {
         }
     }
 
-    /// Of the first commit that is seen there: its record stands at this place.
-    pub fn look(&self, place: usize) -> Option<NearlyFull> {
-        let records = place.saturating_add(1);
+    /// At a commit after which so many records are kept.
+    pub fn look(&self, records: usize) -> Option<NearlyFull> {
+        if records < self.places / 2 {
+            self.was_nearly_full.store(false, Ordering::SeqCst);
+            return None;
+        }
         let few = self.places - self.places / 10;
         if records < few || self.was_nearly_full.swap(true, Ordering::SeqCst) {
             return None;

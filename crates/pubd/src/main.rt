@@ -1,4 +1,11 @@
 //! `pubd CONFIG ADDR CONNECTIONS [SCRIPT]...` serves replication connections, and runs scripts beside them.
+//!
+//! `main.rt` reads the command line (`command.rt`), opens the hub, and starts what runs beside it: listeners, scripts
+//! (`scripting/`), the status page (`status_page.rt`, `status_text.rt`), and reports on standard error (`reports.rt`).
+//! `ending.rt` ends all of it in order.
+//!
+//! Read `main.rt`, `command.rt`, `scripts.rt`, `ending.rt`. One contract is used: a session's line of a script is a call of
+//! `schedule::Sessions::line`; of sockets and threads, runs tell.
 #![tactic(auto)]
 
 mod command;
@@ -20,7 +27,9 @@ mod status_page;
 mod status_text;
 mod talk;
 mod telling;
+mod termination;
 mod times;
+mod user_file;
 mod words;
 
 ghost use Rattle.std.specs.Prelude.{◌≡◌};
@@ -30,9 +39,9 @@ use command_fault::CommandFault;
 use command_line::{arguments_of, ended};
 use configuration::{Config, config_at};
 use descriptors::open_standard;
-use ending::{Doors, end_server};
+use ending::{ListenerHandles, end_server};
 use fault::Fault;
-use hub::{Hub, HubSettings, OpenedHub, serve};
+use hub::{Hub, HubBuilder, HubSettings, serve};
 use level::Level;
 use naming::system_name;
 use password::tell_password;
@@ -44,16 +53,20 @@ use shared_log::LogName;
 use slots::SlotName;
 use status_page::serve_status;
 use std::alloc::{AllocError, Global};
+use std::fs::File;
 use std::io::{Print, Stdin};
 use std::marker::Brand;
 use std::net::{Net, SocketAddr, TcpListener, TcpStream};
 use std::process::ExitCode;
+use std::random::RandomSource;
 use std::sync::atomic::{AtomicBool, Ordering};
 use std::sync::{Arc, Wait};
 use std::thread::Threads;
 use std::time::Clock;
 use std::{io, thread};
 use telling::{Told, write_told};
+use termination::{SIGNALS, Termination, blocks_signal, watch_signals};
+use user_file::{UserFile, asked_users};
 use words::{Numbers, Words};
 
 fn main(rt: HostRuntime) -> ExitCode {
@@ -68,6 +81,7 @@ where
         + Threads
         + Wait
         + Clock
+        + RandomSource
         + Eprint
         + Copy
         + Send
@@ -84,6 +98,7 @@ where
         + Threads
         + Wait
         + Clock
+        + RandomSource
         + Eprint
         + Copy
         + Send
@@ -104,6 +119,7 @@ where
         + Threads
         + Wait
         + Clock
+        + RandomSource
         + Eprint
         + Copy
         + Send
@@ -116,6 +132,7 @@ where
         config: words.config,
         numbers: &numbers,
         scripts: scripts.as_slice(),
+        passwords: words.passwords,
         has_input: words.scripts.as_slice().contains(&STANDARD_INPUT),
     };
     listen(rt, host, &asked)
@@ -127,6 +144,8 @@ struct Asked<'a> {
     config: &'a str,
     numbers: &'a Numbers,
     scripts: &'a [Script],
+    /// The file of those that may connect.
+    passwords: Option<&'a str>,
     /// Whether lines come from the standard input.
     has_input: bool,
 }
@@ -137,6 +156,7 @@ where
         + Threads
         + Wait
         + Clock
+        + RandomSource
         + Eprint
         + Copy
         + Send
@@ -171,23 +191,27 @@ where
         + Threads
         + Wait
         + Clock
+        + RandomSource
         + Eprint
         + Copy
         + Send
         + Sync
         + 'static,
 {
-    let doors = Doors::of(rt.alloc(), listener, page).map_err(Fault::Listen)?;
+    let passwords = UserFile::asked(rt, asked.passwords)?;
+    let listeners = ListenerHandles::of(rt.alloc(), listener, page, passwords);
+    let listeners = listeners.map_err(Fault::Listen)?;
     let service = Service {
         listener,
         page,
-        doors: &doors,
+        listeners: &listeners,
         connections: asked.numbers.connections,
         awaited: asked.numbers.awaited,
         level: asked.numbers.level,
         scripts: asked.scripts,
         has_input: asked.has_input,
         ends_with_input: asked.has_input && asked.numbers.ends_with_input,
+        ends_on_sigterm: asked.numbers.ends_on_sigterm,
     };
     serve_configured(rt, host, asked, &service)
 }
@@ -203,6 +227,7 @@ where
         + Threads
         + Wait
         + Clock
+        + RandomSource
         + Eprint
         + Copy
         + Send
@@ -212,12 +237,28 @@ where
     let config = config_at(rt, asked.config)?;
     let told = begin_telling(host, rt.alloc(), config.server().records)?;
     if service.has_input {
-        begin_reading(host, rt.stdin(), &service.doors.input)?;
+        begin_reading(host, rt.stdin(), &service.listeners.input)?;
     }
-    let opened = opened(rt, config, asked.numbers)?;
+    if service.ends_on_sigterm {
+        begin_watching(rt, host, &service.listeners.termination)?;
+    }
+    let mut opened = opened(rt, config, asked.numbers)?;
+    opened.users = asked_users(rt, asked.passwords)?;
+    warn(host, asked, &told);
     let done = served::<Brand, R, _>(host, opened, service, &told, &rt.stdout());
     told.end(host);
     done
+}
+
+/// Tells that everyone may connect, and not from this machine alone.
+fn warn<R: Wait>(rt: &R, asked: &Asked, told: &Told) {
+    let address = asked.numbers.address;
+    if asked.passwords.is_none() && !address.ip().is_loopback() {
+        told.line(
+            rt,
+            format_args!("pubd: everyone may connect at {address}: --passwords asks for passwords"),
+        );
+    }
 }
 
 /// What is told goes to the standard error by a thread of its own. Nobody joins that: it may wait for whoever reads it.
@@ -247,12 +288,42 @@ where
     Ok(())
 }
 
+/// The signal is looked for by a thread of its own. Nobody joins that: it sleeps between two looks.
+fn begin_watching<R>(
+    rt: &HostRuntime,
+    host: &R,
+    termination: &Arc<Termination, Global>,
+) -> Result<(), Fault>
+where
+    R: Threads + Wait + Clock + Copy + Send + 'static,
+{
+    let signals = File::open(rt, SIGNALS).map_err(Fault::Signals)?;
+    if !blocks_signal(&signals).map_err(Fault::Signals)? {
+        return Err(Fault::SignalNotBlocked);
+    }
+    Ok(spawn_watch(host, signals, termination)?)
+}
+
+fn spawn_watch<R>(
+    host: &R,
+    signals: File,
+    termination: &Arc<Termination, Global>,
+) -> Result<(), AllocError>
+where
+    R: Threads + Wait + Clock + Copy + Send + 'static,
+{
+    let theirs = Arc::try_clone(termination)?;
+    let rt = *host;
+    thread::spawn(host, move || watch_signals(&rt, &signals, &theirs))?;
+    Ok(())
+}
+
 /// A hub for this configuration, with those limits that are told.
-fn opened(rt: &HostRuntime, config: Config, numbers: &Numbers) -> Result<OpenedHub, Fault> {
+fn opened(rt: &HostRuntime, config: Config, numbers: &Numbers) -> Result<HubBuilder, Fault> {
     let alloc = rt.alloc();
     let (catalog, publications, server) = config.into_parts();
     let system = system_name(rt, alloc, server.systemid).map_err(Fault::System)?;
-    let opened = OpenedHub::new(alloc, catalog, publications, system, server.records);
+    let opened = HubBuilder::new(alloc, catalog, publications, system, server.records);
     let mut opened = opened.map_err(Fault::Hub)?;
     opened.settings.chunks = numbers.chunks.unwrap_or(server.chunks as u32);
     limit(&mut opened.settings, numbers);
@@ -267,6 +338,11 @@ fn limit(settings: &mut HubSettings, numbers: &Numbers) {
         .authentication_timeout
         .unwrap_or(settings.authentication_timeout);
     settings.max_connections = numbers.max_connections.unwrap_or(settings.max_connections);
+    settings.max_replication_slots = numbers
+        .max_replication_slots
+        .unwrap_or(settings.max_replication_slots);
+    settings.max_wal_senders = numbers.max_wal_senders.unwrap_or(settings.max_wal_senders);
+    settings.max_slot_keep = numbers.max_slot_keep;
     settings.answers_postgresql = numbers.answers_postgresql;
     settings.allows_start_ahead = numbers.allows_start_ahead;
 }
@@ -277,7 +353,7 @@ struct Service<'a> {
     listener: &'a TcpListener,
     /// Where it is told what runs.
     page: Option<&'a TcpListener>,
-    doors: &'a Doors,
+    listeners: &'a ListenerHandles,
     connections: u32,
     awaited: u64,
     level: Level,
@@ -286,19 +362,21 @@ struct Service<'a> {
     has_input: bool,
     /// Whether its end is that of the server.
     ends_with_input: bool,
+    /// Whether a SIGTERM that is pending ends it in order.
+    ends_on_sigterm: bool,
 }
 
 /// The log and the slots are named by the call. A hub must be closed, so whatever may fail stands in a call that borrows it.
 fn served<L, R, O>(
     rt: &R,
-    opened: OpenedHub,
+    opened: HubBuilder,
     service: &Service,
     told: &Told,
     output: &O,
 ) -> Result<(), Fault>
 where
     L: LogName + SlotName + Send + Sync,
-    R: Threads + Wait + Clock + Sync,
+    R: Threads + Wait + Clock + RandomSource + Sync,
     O: Print,
     requires log { opened.log.history.seen.book ≡ L.book }
     requires slots { opened.slots.first.table_id ≡ L.table }
@@ -320,10 +398,10 @@ fn serve_beside_all<L, R, O>(
 ) -> Result<(), Fault>
 where
     L: LogName + SlotName + Send + Sync,
-    R: Threads + Wait + Clock + Sync,
+    R: Threads + Wait + Clock + RandomSource + Sync,
     O: Print,
 {
-    tell_doors(service.doors, output).map_err(Fault::Output)?;
+    tell_addresses(service.listeners, output).map_err(Fault::Output)?;
     let ended_early = AtomicBool::new(false);
     serve_beside(rt, hub, service, told, output, &ended_early)?;
     if ended_early.load(Ordering::SeqCst) {
@@ -343,7 +421,7 @@ fn serve_beside<L, R, O>(
 ) -> Result<(), AllocError>
 where
     L: LogName + SlotName + Send + Sync,
-    R: Threads + Wait + Clock + Sync,
+    R: Threads + Wait + Clock + RandomSource + Sync,
     O: Print,
 {
     thread::scope(thread::scope_env(), rt, |scope| {
@@ -354,6 +432,12 @@ where
         if service.page.is_some() {
             let shown = scope.spawn(move || show(rt, hub, service));
             if !was_spawned(shown) {
+                return give_up(rt, hub, service);
+            }
+        }
+        if service.ends_on_sigterm {
+            let watched = scope.spawn(move || end_when_told(rt, hub, service));
+            if !was_spawned(watched) {
                 return give_up(rt, hub, service);
             }
         }
@@ -371,10 +455,10 @@ where
 }
 
 /// Tells where connections are taken, and where it is told what runs.
-fn tell_doors<O: Print>(doors: &Doors, output: &O) -> io::Result<()> {
-    println!(output; "listening {}", doors.connections.address)?;
-    match &doors.status {
-        Some(door) => println!(output; "status {}", door.address),
+fn tell_addresses<O: Print>(listeners: &ListenerHandles, output: &O) -> io::Result<()> {
+    println!(output; "listening {}", listeners.connections.address)?;
+    match &listeners.status {
+        Some(page) => println!(output; "status {}", page.address),
         None => Ok(()),
     }
 }
@@ -390,8 +474,9 @@ where
     L: LogName + SlotName,
     R: Wait + Clock,
 {
-    service.doors.close_status(rt);
-    end_server(rt, hub, service.doors);
+    service.listeners.close_status(rt);
+    service.listeners.termination.close(rt);
+    end_server(rt, hub, service.listeners);
     Err(AllocError)
 }
 
@@ -412,15 +497,26 @@ where
     let driven = Driven {
         rt,
         hub,
-        doors: service.doors,
-        input: &service.doors.input,
+        listeners: service.listeners,
+        input: &service.listeners.input,
         told,
         ends_with_input: service.ends_with_input,
     };
     let ended = run_input(&driven, output);
     let is_over = has_ended_server(rt, STANDARD_INPUT, ended, told, early);
     if is_over || service.ends_with_input {
-        end_server(rt, hub, service.doors);
+        end_server(rt, hub, service.listeners);
+    }
+}
+
+/// Ends the server once the process is told to end.
+fn end_when_told<L, R>(rt: &R, hub: &Hub<L>, service: &Service)
+where
+    L: LogName + SlotName,
+    R: Wait + Clock,
+{
+    if service.listeners.termination.is_told(rt) {
+        end_server(rt, hub, service.listeners);
     }
 }
 
@@ -431,7 +527,7 @@ where
     R: Wait + Clock,
 {
     if let Some(page) = service.page {
-        serve_status(rt, hub, page, service.doors);
+        serve_status(rt, hub, page, service.listeners);
     }
 }
 
@@ -439,13 +535,14 @@ where
 fn serve_all<L, R>(rt: &R, hub: &Hub<L>, service: &Service, told: &Told, early: &AtomicBool)
 where
     L: LogName + SlotName + Send + Sync,
-    R: Threads + Wait + Clock + Sync,
+    R: Threads + Wait + Clock + RandomSource + Sync,
 {
     let reports = Reports::new(rt, hub.alloc(), told, service.level);
     let served = serve(rt, service.listener, hub, service.connections, &reports);
-    service.doors.end_connections();
+    service.listeners.end_connections();
     hub.end_awaiting(rt);
-    service.doors.close_status(rt);
+    service.listeners.close_status(rt);
+    service.listeners.termination.close(rt);
     match served {
         Err(fault) if !hub.is_ending() => {
             told.line(rt, format_args!("pubd: {fault}"));
@@ -459,8 +556,8 @@ where
 fn run_awaited<L, R>(rt: &R, hub: &Hub<L>, service: &Service, told: &Told, early: &AtomicBool)
 where
     L: LogName + SlotName + Send + Sync,
-    R: Threads + Wait + Clock + Sync,
+    R: Threads + Wait + Clock + RandomSource + Sync,
 {
     hub.await_streams(rt, service.awaited);
-    run_all(rt, hub, service.scripts, service.doors, told, early);
+    run_all(rt, hub, service.scripts, service.listeners, told, early);
 }

@@ -4,7 +4,7 @@ use crate::level::Level;
 use crate::questions::Questions;
 use crate::talk::{Talk, Turn};
 use crate::telling::Told;
-use hub::{ConnectionEnd, Gate, RefusedCommand, Untaken};
+use hub::{AcceptError, ConnectionEnd, RefusedCommand, ServerObserver};
 use std::alloc::Global;
 use std::fmt::Display;
 use std::net::{IpAddr, SocketAddr};
@@ -46,10 +46,10 @@ impl<'e, R: Wait + Clock> Reports<'e, R> {
     }
 }
 
-impl<'e, R: Wait + Clock> Gate for Reports<'e, R> {
+impl<'e, R: Wait + Clock> ServerObserver for Reports<'e, R> {
     fn before(&self, _connection: u32, _command: u32) {}
 
-    fn untaken(&self, from: Option<SocketAddr>, why: &Untaken) {
+    fn not_accepted(&self, from: Option<SocketAddr>, why: &AcceptError) {
         let address = from.map(|from| from.ip());
         self.say(address, format_args!("pubd: {why}"));
     }

@@ -1,6 +1,6 @@
 //! The scripts that run beside the connections, each on a thread of its own.
 
-use crate::ending::{Doors, end_server};
+use crate::ending::{ListenerHandles, end_server};
 use crate::scripting::{Script, ScriptEnd, ScriptFault, run_steps};
 use crate::telling::Told;
 use hub::Hub;
@@ -12,13 +12,13 @@ use std::thread;
 use std::thread::Threads;
 use std::time::Clock;
 
-/// Runs each script to its end; one whose thread can't be had runs on this one, before those behind it. What ends one early is
+/// Runs each script to its end; one whose thread can't be had runs on this one, before those after it. What ends one early is
 /// told, as refused lines are, and by `early`. The line `end` of one of them ends the server.
 pub fn run_all<L, R>(
     rt: &R,
     hub: &Hub<L>,
     scripts: &[Script],
-    doors: &Doors,
+    listeners: &ListenerHandles,
     told: &Told,
     early: &AtomicBool,
 )
@@ -28,9 +28,9 @@ where
 {
     thread::scope(thread::scope_env(), rt, |scope| {
         for script in scripts {
-            let spawned = scope.spawn(move || run_one(rt, hub, script, doors, told, early));
+            let spawned = scope.spawn(move || run_one(rt, hub, script, listeners, told, early));
             if spawned.is_err() {
-                run_one(rt, hub, script, doors, told, early);
+                run_one(rt, hub, script, listeners, told, early);
             }
         }
     });
@@ -40,7 +40,7 @@ fn run_one<L, R>(
     rt: &R,
     hub: &Hub<L>,
     script: &Script,
-    doors: &Doors,
+    listeners: &ListenerHandles,
     told: &Told,
     early: &AtomicBool,
 )
@@ -48,9 +48,9 @@ where
     L: LogName + SlotName,
     R: Wait + Clock,
 {
-    let ended = run_steps(rt, hub, doors, script, told);
+    let ended = run_steps(rt, hub, listeners, script, told);
     if has_ended_server(rt, script.path.as_str(), ended, told, early) {
-        end_server(rt, hub, doors);
+        end_server(rt, hub, listeners);
     }
 }
 

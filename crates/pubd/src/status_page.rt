@@ -2,7 +2,7 @@
 
 ghost use Rattle.std.specs.Prelude.{◌≤◌, IfOk, IfSome, length};
 
-use crate::ending::Doors;
+use crate::ending::ListenerHandles;
 use crate::status_text::write_status;
 use hub::Hub;
 use shared_log::LogName;
@@ -23,19 +23,19 @@ const PATIENCE: u64 = 5;
 const REST: u64 = 100;
 
 /// Answers one request after the other, until the page is over.
-pub fn serve_status<L, R>(rt: &R, hub: &Hub<L>, listener: &TcpListener, doors: &Doors)
+pub fn serve_status<L, R>(rt: &R, hub: &Hub<L>, listener: &TcpListener, listeners: &ListenerHandles)
 where
     L: LogName + SlotName,
     R: Wait + Clock,
 {
     for _ in rt.forever() {
         let accepted = listener.accept();
-        if doors.is_status_over() {
+        if listeners.is_status_over() {
             break;
         }
         match accepted {
             Ok((socket, _)) => {
-                let _ = answer_one(rt, hub, doors, &socket);
+                let _ = answer_one(rt, hub, listeners, &socket);
             }
             Err(_) => thread::sleep(rt, Duration::from_millis(REST)),
         }
@@ -72,18 +72,23 @@ impl Asked {
 }
 
 /// Answers a request, unless the page is over. Whoever ends it meanwhile closes the socket.
-fn answer_one<L, R>(rt: &R, hub: &Hub<L>, doors: &Doors, socket: &TcpStream) -> io::Result<()>
+fn answer_one<L, R>(
+    rt: &R,
+    hub: &Hub<L>,
+    listeners: &ListenerHandles,
+    socket: &TcpStream,
+) -> io::Result<()>
 where
     L: LogName + SlotName,
     R: Wait + Clock,
 {
-    doors.set_asking(rt, Some(socket.try_clone()?));
-    let answered = if doors.is_status_over() {
+    listeners.set_asking(rt, Some(socket.try_clone()?));
+    let answered = if listeners.is_status_over() {
         Ok(())
     } else {
         answer(rt, hub, socket)
     };
-    doors.set_asking(rt, None);
+    listeners.set_asking(rt, None);
     answered
 }
 

@@ -17,7 +17,11 @@ const SERVER_FAMILIES: [(&str, &str, &str); 5] = [
         "gauge",
         "The position where the log ends",
     ),
-    ("pubd_log_records", "gauge", "Records of the log"),
+    (
+        "pubd_log_records",
+        "gauge",
+        "Records of the log that are kept",
+    ),
     (
         "pubd_log_records_free",
         "gauge",
@@ -45,7 +49,7 @@ fn server_value_of(family: &str, status: &HubStatus) -> u64 {
 }
 
 /// What is told of each slot: the name of the family, its kind, and what it is.
-const SLOT_FAMILIES: [(&str, &str, &str); 9] = [
+const SLOT_FAMILIES: [(&str, &str, &str); 11] = [
     (
         "pubd_slot_active",
         "gauge",
@@ -91,6 +95,16 @@ const SLOT_FAMILIES: [(&str, &str, &str); 9] = [
         "gauge",
         "How long ago its client's last status came",
     ),
+    (
+        "pubd_slot_kept_records",
+        "gauge",
+        "Records of the log that are kept for the slot",
+    ),
+    (
+        "pubd_slot_lost",
+        "gauge",
+        "1 where the slot held more records than it may, and was given up (lost), and 0 while what it needs is kept (reserved)",
+    ),
 ];
 
 fn write_slots<W: Write>(status: &HubStatus, to: &mut W) -> io::Result<()> {
@@ -124,6 +138,8 @@ fn value_of(family: &str, slot: &SlotStatus, log_end: u64) -> Option<u64> {
         "pubd_slot_sent_bytes_total" => Some(slot.sent),
         "pubd_slot_sent_transactions_total" => Some(slot.transactions),
         "pubd_slot_chunks_free" => Some(slot.free_chunks as u64),
+        "pubd_slot_kept_records" => Some(slot.kept as u64),
+        "pubd_slot_lost" => Some(u64::from(slot.is_lost)),
         _ => slot.silent_for.map(|time| time.as_secs()),
     }
 }

@@ -69,8 +69,8 @@ impl Told {
 
     /// A line was done: where it was the commit with which the log is nearly full, that is told.
     pub fn done<R: Wait>(&self, rt: &R, done: Done) {
-        if let Done::Commit { place, .. } = done {
-            if let Some(nearly_full) = self.log.look(place) {
+        if let Done::Commit { kept, .. } = done {
+            if let Some(nearly_full) = self.log.look(kept) {
                 self.line(rt, nearly_full);
             }
         }

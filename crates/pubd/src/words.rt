@@ -11,6 +11,9 @@ use std::time::Duration;
 /// The most connections that one run serves.
 const MOST_CONNECTIONS: u32 = 1000;
 
+/// The most slots that there can be at once, and the most streams.
+const MOST_SLOTS: u32 = 1024;
+
 /// In the place of their number for a server that goes on: with a connection each second it lasts for 136 years.
 const FOREVER: &str = "forever";
 
@@ -24,20 +27,26 @@ pub struct Words<'a> {
     pub(crate) silence: Option<&'a str>,
     pub(crate) startup: Option<&'a str>,
     pub(crate) at_once: Option<&'a str>,
+    pub(crate) slots: Option<&'a str>,
+    pub(crate) senders: Option<&'a str>,
+    pub(crate) slot_keep: Option<&'a str>,
     pub(crate) work_memory: Option<&'a str>,
     pub(crate) messages: Option<&'a str>,
     pub(crate) status: Option<&'a str>,
     pub(crate) answers_postgresql: bool,
     pub(crate) allows_start_ahead: bool,
     pub(crate) keeps_serving: bool,
+    pub(crate) ends_on_sigterm: bool,
+    /// The file of those that may connect, where not everyone may.
+    pub passwords: Option<&'a str>,
     /// Of whom a password is read, and nothing is served.
     pub password_of: Option<&'a str>,
     pub scripts: Vec<&'a str>,
 }
 
 /// Where it listens, for connections and for who asks what runs, how many connections it serves, how many streams the scripts await, how much it tells, its limits where
-/// they are told: for how long a stream's client may be silent, how long a startup may take, and how many connections are served
-/// at once; whether PostgreSQL's own clients are answered, and whether a stream may start ahead of its slot.
+/// they are told: for how long a stream's client may be silent, how long a startup may take, how many connections are served
+/// at once, and how many slots there may be; whether PostgreSQL's own clients are answered, and whether a stream may start ahead of its slot.
 #[derive(Clone, Copy)]
 pub struct Numbers {
     pub address: SocketAddr,
@@ -48,12 +57,17 @@ pub struct Numbers {
     pub wal_sender_timeout: Option<Duration>,
     pub authentication_timeout: Option<Duration>,
     pub max_connections: Option<u32>,
+    pub max_replication_slots: Option<u32>,
+    pub max_wal_senders: Option<u32>,
+    /// How many records a slot may hold before it is given up.
+    pub max_slot_keep: Option<usize>,
     /// The chunks of each stream, where not the configuration tells them.
     pub chunks: Option<u32>,
     pub answers_postgresql: bool,
     pub allows_start_ahead: bool,
     /// Whether the end of the standard input is that of the server, where lines come from there.
     pub ends_with_input: bool,
+    pub ends_on_sigterm: bool,
 }
 
 impl<'a> Words<'a> {
@@ -73,10 +87,14 @@ impl<'a> Words<'a> {
             wal_sender_timeout: self.wal_sender_timeout()?,
             authentication_timeout: self.authentication_timeout()?,
             max_connections: self.max_connections()?,
+            max_replication_slots: self.max_replication_slots()?,
+            max_wal_senders: self.max_wal_senders()?,
+            max_slot_keep: self.max_slot_keep()?,
             chunks: self.chunks()?,
             answers_postgresql: self.answers_postgresql,
             allows_start_ahead: self.allows_start_ahead,
             ends_with_input: self.connections == FOREVER && !self.keeps_serving,
+            ends_on_sigterm: self.ends_on_sigterm,
         })
     }
 
@@ -138,6 +156,36 @@ impl<'a> Words<'a> {
         match count_of(text) {
             Some(count) if 1 <= count => Ok(Some(count)),
             _ => Err(NumberFault::AtOnce),
+        }
+    }
+
+    fn max_replication_slots(&self) -> Result<Option<u32>, NumberFault> {
+        let Some(text) = self.slots else {
+            return Ok(None);
+        };
+        match count_of(text) {
+            Some(count) if 1 <= count && count <= MOST_SLOTS => Ok(Some(count)),
+            _ => Err(NumberFault::Slots),
+        }
+    }
+
+    fn max_wal_senders(&self) -> Result<Option<u32>, NumberFault> {
+        let Some(text) = self.senders else {
+            return Ok(None);
+        };
+        match count_of(text) {
+            Some(count) if 1 <= count && count <= MOST_SLOTS => Ok(Some(count)),
+            _ => Err(NumberFault::Senders),
+        }
+    }
+
+    fn max_slot_keep(&self) -> Result<Option<usize>, NumberFault> {
+        let Some(text) = self.slot_keep else {
+            return Ok(None);
+        };
+        match count_of(text) {
+            Some(count) if 1 <= count => Ok(Some(count as usize)),
+            _ => Err(NumberFault::SlotKeep),
         }
     }
 

@@ -69,7 +69,7 @@ abbrev rest_in : Result ((ℕ × List Value) × List ℕ) BodyFault → List ℕ
 rest_in (Ok read) = read.1
 rest_in (Err fault) = []
 
--- what stands behind is known
+-- what stands after is known
 pub behind_is : (fields behind after : List ℕ) (first other : ℕ × List Value) → insert_at fields ≡ Ok (first, behind) → insert_at fields ≡ Ok (other, after) → behind ≡ after
 behind_is fields behind after first other a b = ap rest_in (sym a ∙ b)
 

@@ -1,6 +1,6 @@
 -- A table that is found, and its Relation, which fits its fields and a frame.
-use Rattle.std.proofs.Common.{◌≡◌, ℕ, negsuc, ◌+◌, ◌*◌, ◌≤◌, Bool, true, false, cond, eqb, List, [], ◌∷◌, ◌++◌, length, map, Option, Some, None, refl, sym, ap, subst, ◌∙◌, arith}
-use Rattle.std.specs.Prelude.{FitsSigned, IfSome}
+use Rattle.std.proofs.Common.{◌≡◌, ℕ, ◌+◌, ◌*◌, ◌≤◌, Bool, true, false, cond, eqb, List, [], ◌∷◌, ◌++◌, length, map, Option, Some, None, refl, sym, ap, subst, ◌∙◌, arith}
+use Rattle.std.specs.Prelude.{IfSome}
 use Rattle.std.specs.Borrow.{Bor}
 use Rattle.std.specs.Option.{option_copied}
 use Rattle.std.specs.List.{flat_map, AllByRecursion}
@@ -21,7 +21,7 @@ use Rattle.pgoutput.specs.Items.{IsShortMessage, FitsRelationOf}
 use Rattle.publication_config.specs.Published.{PublicationSet}
 use Rattle.row_messages.specs.Relations.{relation_of, relation_column, FitsTable}
 use Rattle.publication.specs.Selection.{relation, selected_table, FitTables}
-use Rattle.row_messages.proofs.Values.{type_fits}
+use Rattle.row_messages.proofs.Values.{modifier_fits, type_fits}
 
 pub some_is : {A : Type 0} (x y : A) → Some x ≡ Some y → x ≡ y
 some_is x y e = cc
@@ -49,9 +49,6 @@ record ColumnsFit (identity : Identity) (cs : List Column) : Type 0 where
   fits : AllByRecursion FitsColumn (map (relation_column identity) cs)
   short : length (flat_map column (map (relation_column identity) cs)) ≤ 73 * length cs
 
-no_modifier : FitsSigned w32 (negsuc 0)
-no_modifier = record { sfits = omega arith }
-
 columns_fit : (identity : Identity) (cs : List Column) → AllByRecursion (λ c. FitsName c.name × (length c.name ≤ 63)) cs → ColumnsFit identity cs
 columns_fit identity [] all = record { fits = tt; short = omega arith }
 columns_fit identity (c ∷ cs) all =
@@ -68,7 +65,7 @@ columns_fit identity (c ∷ cs) all =
       length-int32 (cast_unsigned w32 told.modifier),
     ) in
     record {
-      fits = ((all.0.0, (type_fits c.kind, no_modifier)), others.fits);
+      fits = ((all.0.0, (type_fits c.kind, modifier_fits c.kind)), others.fits);
       short = omega (arith, parted, here, all.0.1, others.short);
     }
 

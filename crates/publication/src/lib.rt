@@ -1,4 +1,10 @@
 //! What a stream selects of the publications by their names: which changes are published, and the messages that they become.
+//!
+//! `Publications` are what a server has, and `Selection` what one stream chose of them. `Selection::has_message` says whether a
+//! change is published, and `Selection::put` writes its message, filtered and projected.
+//!
+//! Read `publications.rt`, `selection.rt`, `putting.rt`; specs/Logged.antt says which message a change becomes. Above,
+//! `walsender` uses one contract: `put` writes exactly the message of the definition, or none where there is none.
 #![tactic(auto)]
 
 mod judging;

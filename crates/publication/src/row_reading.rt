@@ -43,7 +43,7 @@ pub(crate) fn two_rows<'a>(
     Some(oid)
 }
 
-/// The OID and the row at the front, and what stands behind them.
+/// The OID and the row at the front, and what stands after them.
 #[tactic(auto, unfolding(tables::specs::Reading::insert_at))]
 pub(crate) fn oid_and_row<'a>(fields: &'a [u8], row: &mut RowRef<'a>) -> Option<(u32, &'a [u8])>
     ensures found { IfSome result

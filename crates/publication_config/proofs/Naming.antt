@@ -1,4 +1,4 @@
--- What is asked of the publications of some names is asked of all, behind the question whether they have one of the names.
+-- What is asked of the publications of some names is asked of all, after the question whether they have one of the names.
 use Rattle.std.proofs.Common.{◌≡◌, ℕ, Bool, true, false, cond, List, [], ◌∷◌, refl, ap}
 use Rattle.std.specs.Prelude.{◌&&◌, ◌||◌}
 use Rattle.std.specs.List.{list_any}

@@ -5,11 +5,15 @@ use crate::fault::PubFault;
 use catalog::Catalog;
 use rowfilter::{FilterFault, MOST_BYTES, fault_at};
 use std::alloc::{AllocError, Global};
-use tables::Table;
+use tables::{Kind, Table};
 use toml::Value;
 
 /// The most bytes of a text that a line shows, so that no line is long.
 const MOST_SHOWN: usize = 120;
+
+/// What is said of a filter that doesn't fit a table with such columns.
+const COMPARED: &str =
+    "\nonly bool, int2, int4, int8, text and uuid are compared; of other columns ask IS NULL or IS NOT NULL";
 
 /// The most characters that it shows before a mark.
 const MOST_BEFORE: usize = 30;
@@ -44,7 +48,8 @@ fn push_place(
     push_names(lines, publication, catalog, place.table)?;
     match fault {
         PubFault::BadFilter(_, why) => {
-            mark_filter(alloc, lines, publication, catalog, place.table, why)
+            mark_filter(alloc, lines, publication, catalog, place.table, why)?;
+            push_compared(lines, publication, catalog, place.table, why)
         }
         _ => Ok(()),
     }
@@ -70,7 +75,7 @@ fn push_names(
     push_both(lines, ".", table.name.as_str())
 }
 
-/// Adds these words, and as much of the text behind them as a line shows.
+/// Adds these words, and as much of the text after them as a line shows.
 fn push_both(lines: &mut String, words: &str, text: &str) -> Result<(), AllocError> {
     lines.push_str(words)?;
     lines.push_str(beginning(text))
@@ -174,6 +179,39 @@ fn mark_filter(
     push_marked(lines, text, at)
 }
 
+/// Adds which columns are compared, where kinds are at fault and the table has others.
+fn push_compared(
+    lines: &mut String,
+    publication: &Value,
+    catalog: &Catalog,
+    number: usize,
+    why: FilterFault,
+) -> Result<(), AllocError> {
+    if why == FilterFault::TypeMismatch && is_incomparable(publication, catalog, number) {
+        return lines.push_str(COMPARED);
+    }
+    Ok(())
+}
+
+/// Whether a column of the publication's table isn't compared with anything.
+fn is_incomparable(publication: &Value, catalog: &Catalog, number: usize) -> bool {
+    let Some(value) = numbered(publication.get("tables"), number) else {
+        return false;
+    };
+    match table_of(value, catalog) {
+        Some(table) => has_incomparable(table),
+        None => false,
+    }
+}
+
+fn has_incomparable(table: &Table) -> bool {
+    table
+        .columns
+        .as_slice()
+        .iter()
+        .any(|column| matches!(column.kind, Kind::AsText(_)))
+}
+
 fn text_of(value: &Value) -> Option<&str> {
     value.get("where")?.as_str()
 }
@@ -211,7 +249,7 @@ fn push_line(lines: &mut String, text: &str) -> Result<(), AllocError> {
     push_both(lines, "\n    ", text.split('\n').next().unwrap_or(""))
 }
 
-/// Adds the mark behind as many blanks as there are characters before it; a tab stands below a tab.
+/// Adds the mark after as many blanks as there are characters before it; a tab stands below a tab.
 fn push_mark(lines: &mut String, before: &str) -> Result<(), AllocError> {
     lines.push_str("\n    ")?;
     for c in before.chars() {

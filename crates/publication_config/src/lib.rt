@@ -1,5 +1,12 @@
 //! Publications: the tables that each has, with the rows and columns of each, and the operations that it publishes; how the text
 //! of a configuration tells them, and why it tells none.
+//!
+//! `Publication` is a name, operations and tables (`PublishedTable`: a filter and a list of columns). `config.rt` reads them
+//! from TOML, and `explaining.rt` says what is wrong in words; `judging.rt` refuses what PostgreSQL would, such as a filter over
+//! columns outside the identity.
+//!
+//! Read `published_table.rt`, `publication.rt`, `config.rt`. Above, one contract is used: `publications_in` answers exactly the
+//! publications that the text configures, or its first fault.
 #![tactic(auto)]
 
 mod config;

@@ -13,8 +13,9 @@ const AFTER_HELP: &str = help_text!(
 
 The log has room for that number of records, and a sender for changes of transactions in
 progress in that number of chunks, each of 16,384 bytes. The types are bool, int2, int4, int8,
-text and uuid. A table of a publication may have a filter and a column list; without them all its rows
-and columns are published. A publication has tables = [..], or schemas = [..], or
+numeric, numeric(p,s), text, varchar, varchar(n), char(n), bytea, date, time, timestamp,
+timestamptz and uuid. A table of a publication may have a filter and a column list; without them
+all its rows and columns are published. A publication has tables = [..], or schemas = [..], or
 all_tables = true, and publishes what publish = [..] names of insert, update, delete and
 truncate, or all of them.
 
@@ -28,7 +29,7 @@ lines that begin with # are passed over. T is a transaction's name and C a conne
                            a sender of publications starts, as in start c - 0/0 p, where - is
                            no slot
   read C MAX CLOCK         the sender reads up to MAX records of the log
-  keepalive C CLOCK        the sender puts a keepalive behind what it holds
+  keepalive C CLOCK        the sender puts a keepalive after what it holds
   drain C N                up to N bytes go from the sender into the pipe
   deliver C N              up to N bytes go from the pipe to the connection's subscriber
   status C CLOCK           the subscriber sends how far it is into the pipe back

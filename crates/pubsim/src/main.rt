@@ -1,5 +1,11 @@
 //! `pubsim CONFIG SCHEDULE` runs a schedule of events over a publisher in memory, and prints what was refused and what
 //! each sender produced.
+//!
+//! `command.rt` reads the command line, `simulation.rt` runs the schedule over a `world::World`, and `rendering.rt` prints
+//! streams as lines of text.
+//!
+//! Read `main.rt`, then `simulation.rt`. One contract is used: a simulation that fails has printed nothing, unless printing
+//! itself failed (`simulate`: `silent`).
 #![tactic(auto)]
 
 mod command;

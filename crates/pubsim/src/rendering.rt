@@ -3,13 +3,13 @@
 use copyboth::{ServerBody, read_server};
 use frames::{Back, FrameFault, read_back};
 use message_lines::render;
-use pgoutput::{OutFault, read_logical};
+use pgoutput::{PgoutputError, read_logical};
 use replcmd::write_position;
 use std::alloc::Global;
 use std::io;
 use std::io::{ErrorKind, Write};
 
-/// A connection's name and a colon, and behind it a line for each frame that one start of its sender produced: the position that it
+/// A connection's name and a colon, and after it a line for each frame that one start of its sender produced: the position that it
 /// carries, and its message, or that it is a keepalive. What was produced of a last frame is told by its length.
 pub fn write_rendered<W: Write>(
     alloc: Global,
@@ -83,9 +83,9 @@ fn of_frame(fault: FrameFault) -> io::Error {
     }
 }
 
-fn of_message(fault: OutFault) -> io::Error {
+fn of_message(fault: PgoutputError) -> io::Error {
     match fault {
-        OutFault::Memory => io::Error::from(ErrorKind::OutOfMemory),
+        PgoutputError::Memory => io::Error::from(ErrorKind::OutOfMemory),
         _ => io::Error::from(ErrorKind::InvalidData),
     }
 }

@@ -118,7 +118,7 @@ fn report_run<L: LogName + SlotName, R: Wait, W: Write>(
     }
 }
 
-/// The fault of the event behind so many that happened.
+/// The fault of the event after so many that happened.
 fn stopped(schedule: Schedule, done: usize, fault: WorldFault) -> SimFault {
     match fault {
         WorldFault::NoEntry => SimFault::NoEntry,

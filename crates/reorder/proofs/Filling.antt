@@ -150,7 +150,7 @@ pub tidy_quiet : (old new : ReorderState) (ws : List ReadyState) (count : ℕ) �
     IsTidy count [] (after_giving_all_back old ws).strands → IsTidy count [] (after_giving_all_back new ws).strands
 tidy_quiet old new ws count before after takes tidy = settled_tidy new ws count after (takes count ws (tidy_settled old ws count before tidy))
 
--- and so does one that makes one more ready, behind these
+-- and so does one that makes one more ready, after these
 pub tidy_more : (old new : ReorderState) (ws : List ReadyState) (ready : ReadyState) (count : ℕ) → AreLentIn old ws → AreLentIn new (ws ++ ready ∷ []) →
     ((n : ℕ) (held : List ReadyState) → IsTidy n held old.strands → IsTidy n (ready ∷ held) new.strands) → IsTidy count [] (after_giving_all_back old ws).strands → IsTidy count [] (after_giving_all_back new (ws ++ ready ∷ [])).strands
 tidy_more old new ws ready count before after takes tidy = settled_tidy new (ws ++ ready ∷ []) count after (tidy_last new ws ready count (takes count ws (tidy_settled old ws count before tidy)))

@@ -140,7 +140,7 @@ top_above l rs x h some = by_option (l.strand x) refl some
     by_option None is has = let never : false ≡ true = has in cc
     by_option (Some s) is has = let o : IsStrand l rs x s = h.strands x s is in ap (λ w. last_of x (above_in w)) is ∙ ap (last_of x) (sym o.chain)
 
--- an xid under another stands behind it
+-- an xid under another stands after it
 below_is : (l : ByXid) (rs : List Record) (x q : ℕ) (s : StrandState) → AreStrandsOf l rs → l.strand q ≡ Some s → is_in x s.above ≡ true → is_in q (behind x (back_from_last l x)) ≡ true
 below_is l rs x q s h is above =
     let o : IsStrand l rs q s = h.strands q s is in

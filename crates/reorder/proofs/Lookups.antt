@@ -101,7 +101,7 @@ undone_after s strands members pool pool' xid same_strands same_members under ha
     (undone_same s.strands s.members s.pool pool' xid
     (λ x. has x ∙ ap (λ es. cond (xid == x) [] es) (under x) ∙ either (xid == x) (is_in x (behind xid (back_in s xid)) && is_in xid (above_standing (at s.strands x))) (entries_at s.pool x))))
 
--- where the entries go of what stands behind an xid among those of its transaction
+-- where the entries go of what stands after an xid among those of its transaction
 pub given_back : (strands : List (ℕ × Standing)) (members : List (ℕ × List ℕ)) (pool pool' : PoolState) (xid top : ℕ) (ms xs : List ℕ) →
     top ≡ last_of xid (above_standing (at strands xid)) → lookup (λ k. top == k) members ≡ Some ms → xs ≡ ms →
     ((x : ℕ) → entries_at pool' x ≡ cond (is_in x (behind xid (reverse xs)) && is_in xid (above_standing (at strands x))) [] (entries_at pool x)) →

@@ -1,4 +1,4 @@
--- In which order the xids of a transaction stand: each behind all that are above it.
+-- In which order the xids of a transaction stand: each after all that are above it.
 use Rattle.std.proofs.Common.{◌≡◌, ℕ, ◌==◌, Bool, true, false, cond, ◌||◌, List, [], ◌∷◌, ◌++◌, reverse, refl, sym, ap, subst, ◌∙◌, eq-eqb}
 use Rattle.std.specs.List.{AllByRecursion}
 use Rattle.std.proofs.lemmas.Bool.{eqb-true}
@@ -41,7 +41,7 @@ above_inside l x q [] o inn above = inn
 above_inside l x q (y ∷ ys) o inn above =
     or_true (x == y) (is_in x ys) (by_first q y ys (is_in x ys ≡ true) inn (above_first l x q y ys o.1 above) (λ later. above_inside l x q ys o.2 later above))
 
--- what is under one of them stands behind it
+-- what is under one of them stands after it
 pub stands_behind : (l : ByXid) (x q : ℕ) (ys : List ℕ) → AreOrdered l ys → is_in q ys ≡ true → is_in x (above_of l q) ≡ true → is_in q (behind x ys) ≡ true
 stands_behind l x q [] o inn above = inn
 stands_behind l x q (y ∷ ys) o inn above =

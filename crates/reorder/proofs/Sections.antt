@@ -1,4 +1,4 @@
--- What may come next in a well-formed log may come next in a section of it, which begins behind its first records.
+-- What may come next in a well-formed log may come next in a section of it, which begins after its first records.
 use Rattle.std.proofs.Common.{◌≡◌, ℕ, ◌==◌, Bool, true, false, cond, List, [], ◌∷◌, ◌++◌, reverse, refl, sym, ap, ◌∙◌}
 use Rattle.std.specs.List.{list_any}
 use Rattle.std.proofs.lemmas.Bool.{eqb-true}

@@ -137,7 +137,7 @@ entries_given_back old new ready ws are is =
     last [] apart are = tt
     last (w ∷ ws) apart are = (lasts_without old.strands.pool ready w.strands apart.0 are.0.lent, last ws apart.1 are.2)
 
--- one more is ready, behind these
+-- one more is ready, after these
 pub lent_more : (old new : ReorderState) (ws : List ReadyState) (ready : ReadyState) → AreLentIn old ws → AreLentIn new ws → IsReadyIn new.strands.pool ready →
     ((lent : List (ℕ × Option ℕ)) → IsLent old.strands.pool lent → AreApart ready.strands lent) → AreLentIn new (ws ++ ready ∷ [])
 lent_more old new [] ready before after is apart = (is, tt, tt)

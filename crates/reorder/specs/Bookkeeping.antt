@@ -20,7 +20,7 @@ pub record IsStrand (l : ByXid) (rs : List Record) (x : ℕ) (s : StrandState) :
   pub members_are : l.members (last_of x s.above) ≡ Some members
   pub within : AllByRecursion (λ y. is_in y members ≡ true) (x ∷ s.above)
 
--- told from the last one on: no xid stands twice, and all that are above one come behind it
+-- told from the last one on: no xid stands twice, and all that are above one come after it
 abbrev pub AreOrdered : ByXid → List ℕ → Type 0
 AreOrdered l [] = Unit {0}
 AreOrdered l (x ∷ xs) = (is_in x xs ≡ false) × AllByRecursion (λ y. is_in y xs ≡ true) (above_of l x) × AreOrdered l xs

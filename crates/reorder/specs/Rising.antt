@@ -3,7 +3,7 @@ use Rattle.std.specs.Prelude.{◌<◌, List, [], ◌∷◌}
 use Rattle.std.specs.List.{AllByRecursion}
 use Rattle.wal.specs.Log.{Entry}
 
--- each starts behind all before it
+-- each starts after all before it
 abbrev pub IsRising : List Entry → Type 0
 IsRising [] = Unit {0}
 IsRising (e ∷ es) = AllByRecursion (λ f. e.position < f.position) es × IsRising es

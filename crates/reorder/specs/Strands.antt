@@ -96,7 +96,7 @@ with_change e s = record s { changes = s.changes ++ e ∷ [] }
 abbrev pub with_change_of : ℕ → Entry → ByXid → ByXid
 with_change_of x e l = record l { strand = map_with x (option_map (with_change e) (l.strand x)) l.strand }
 
--- those behind the xid in a list that is told from its end
+-- those after the xid in a list that is told from its end
 abbrev pub behind : ℕ → List ℕ → List ℕ
 behind x [] = []
 behind x (y ∷ ys) = if y == x then [] else y ∷ behind x ys

@@ -1,5 +1,5 @@
 -- Taking the records of a log one by one: what a regrouping keeps between them, and what each of them makes ready. The records
--- may be those of a whole log or of a section of one, which begins behind earlier records of its transactions.
+-- may be those of a whole log or of a section of one, which begins after earlier records of its transactions.
 use Rattle.std.specs.Prelude.{◌≡◌, ◌<◌, ℕ, Bool, true, false, List, [], ◌∷◌, ◌++◌, Option, Some, None}
 use Rattle.std.specs.List.{AllByRecursion}
 use Rattle.std.specs.List.Sorted.{IsPermutation}
@@ -35,7 +35,7 @@ abbrev pub MayCome : List Record → Body → Type 0
 MayCome before (AbortSub xid) = IsOpen before xid
 MayCome before body = IsNext before body
 
--- the record starts behind every record before it
+-- the record starts after every record before it
 abbrev pub StartsBehind : List Record → Record → Type 0
 StartsBehind before r = AllByRecursion (λ q. q.start < r.start) before
 

@@ -1,4 +1,11 @@
 //! Changes regrouped by transaction: what a log interleaves, a subscriber gets whole at each commit.
+//!
+//! `Reorder::take` takes records in the order of the log. `Step::Ready` comes with a Commit: the changes of its transaction,
+//! with those of its subtransactions, and without what was rolled back. They lie in an arena until they are given back
+//! (`CommittedChanges`).
+//!
+//! Read `reorder.rt`, `ready.rt`, then `strands.rt`. Above, `walsender` uses one contract: what a Commit brings are exactly its
+//! transaction's kept changes, in order, also where only a section of the log was read.
 #![tactic(auto)]
 
 mod entry;
@@ -15,5 +22,5 @@ mod strand;
 mod strands;
 
 pub use fault::ReorderFault;
-pub use ready::{Ready, Step};
+pub use ready::{CommittedChanges, Step};
 pub use reorder::Reorder;

@@ -13,7 +13,7 @@ use std::marker::Model;
 /// The changes that a committed transaction keeps, in log order, those of rolled-back subtransactions left out. There are
 /// `count()` of them, maybe none; `Reorder::entry` lends each by its place, and `Reorder::finish` takes them back.
 #[derive(Drop)]
-pub struct Ready {
+pub struct CommittedChanges {
     members: Members,
     /// The strands of those that have changes.
     strands: Lent,
@@ -22,7 +22,7 @@ pub struct Ready {
     near: usize,
 }
 
-impl Model for Ready {
+impl Model for CommittedChanges {
     ghost use Rattle.reorder.specs.Ready.{ReadyState};
     ghost use Rattle.reorder.specs.Lents.{strands_in};
     ghost use Rattle.reorder.specs.Orders.{places_in};
@@ -36,7 +36,7 @@ impl Model for Ready {
     } };
 }
 
-impl Ready {
+impl CommittedChanges {
     /// How many changes there are.
     pub fn count(&self) -> usize
         ensures { result ≡ length self.now.places }
@@ -65,7 +65,7 @@ impl Ready {
         &self.strands
     }
 
-    pub(crate) fn new(members: Members, strands: Lent, order: Order) -> Ready
+    pub(crate) fn new(members: Members, strands: Lent, order: Order) -> CommittedChanges
         ensures { result
             ≡ record {
               xids = members;
@@ -73,7 +73,7 @@ impl Ready {
               places = places_in order;
             } }
     {
-        Ready {
+        CommittedChanges {
             members,
             strands,
             order,
@@ -85,7 +85,7 @@ impl Ready {
         ensures xids { result.0 ≡ self.xids }
         ensures strands { strands_in result.1 ≡ self.strands }
     {
-        let Ready {
+        let CommittedChanges {
             members,
             strands,
             ..
@@ -99,5 +99,5 @@ pub enum Step {
     /// Nothing to publish yet: the record is no Commit.
     Quiet,
     /// A transaction committed, with these changes.
-    Ready(Ready),
+    Ready(CommittedChanges),
 }

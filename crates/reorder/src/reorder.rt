@@ -11,7 +11,7 @@ ghost use Rattle.reorder.specs.Taking.{HasTaken, IsHeld, IsStepApart, IsStepHeld
 
 use crate::entry::{body_of, entry_len, position_of, write_entry};
 use crate::fault::ReorderFault;
-use crate::ready::{Ready, Step};
+use crate::ready::{CommittedChanges, Step};
 use crate::strands::Strands;
 use bytes::BytesMut;
 use chgarena::Arena;
@@ -23,7 +23,7 @@ use wal::{Body, Record};
 ///
 /// Records go in one by one and in log order, each by `take`. `Step::Quiet` means that nothing of a transaction is to be published yet;
 /// a note is quiet too, and takes no room.
-/// `Step::Ready` comes with a commit: `entry` lends its changes one by one, and `finish` takes the `Ready` back. Several may be in
+/// `Step::Ready` comes with a commit: `entry` lends its changes one by one, and `finish` takes the `CommittedChanges` back. Several may be in
 /// being while more records are taken.
 ///
 /// The first record may be any record of a log. Of a transaction in progress there only the changes from this record on are
@@ -182,7 +182,7 @@ impl Reorder {
 
     /// The k-th change that is ready: the position at which its record starts, and its body. It is lent from the arena, and found at
     /// once where the changes are asked for in their order.
-    pub fn entry<'a>(&'a self, ready: &mut Ready, k: usize) -> (u64, &'a [u8])
+    pub fn entry<'a>(&'a self, ready: &mut CommittedChanges, k: usize) -> (u64, &'a [u8])
         requires held { IsReadyIn self.now.strands.pool ready.old }
         requires within { k < length ready.old.places }
         ensures entry { IsEntryAt (ready_entries self.now.strands.pool ready.old) k result.0
@@ -194,7 +194,7 @@ impl Reorder {
     }
 
     /// Gives back what was ready.
-    pub fn finish(&mut self, ready: Ready)
+    pub fn finish(&mut self, ready: CommittedChanges)
         requires { IsHeld self.old ready }
         ensures same { IsSameTaken self.old self.new }
         ensures exact { self.new ≡ after_giving_back self.old ready }

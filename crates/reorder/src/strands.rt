@@ -21,7 +21,7 @@ use crate::fault::ReorderFault;
 use crate::lent::Lent;
 use crate::members::Members;
 use crate::pool::Pool;
-use crate::ready::Ready;
+use crate::ready::CommittedChanges;
 use crate::strand::Strand;
 use chgarena::Arena;
 use std::alloc::{AllocError, Global};
@@ -215,7 +215,7 @@ impl Strands {
     }
 
     /// Gives up all xids of a transaction, but for their changes: those that it keeps are ready, and lie where nobody else comes.
-    pub(crate) fn make_ready(&mut self, top: u32) -> Result<Ready, AllocError>
+    pub(crate) fn make_ready(&mut self, top: u32) -> Result<CommittedChanges, AllocError>
         ensures ended { OnOk result
             (IsSame (by_xid self.new) (without_transaction top (by_xid self.old))) }
         ensures merged { IfOk result
@@ -238,11 +238,11 @@ impl Strands {
         let members = remove_members(self.alloc, &mut self.members, top);
         remove_all(&mut self.strands, members.as_slice());
         let strands = self.pool.lend_all(self.alloc, members.as_slice())?;
-        Ok(Ready::new(members, strands, order))
+        Ok(CommittedChanges::new(members, strands, order))
     }
 
     /// The k-th entry of what is ready.
-    pub(crate) fn entry<'a>(&'a self, ready: &mut Ready, k: usize) -> &'a [u8]
+    pub(crate) fn entry<'a>(&'a self, ready: &mut CommittedChanges, k: usize) -> &'a [u8]
         requires ready { IsReadyIn self.now.pool ready.old }
         requires within { k < length ready.old.places }
         ensures value { (at : PlaceState) → slice_get ready.old.places k ≡ Some at →
@@ -260,7 +260,7 @@ impl Strands {
     }
 
     /// Gives back the changes of what was ready.
-    pub(crate) fn give_back(&mut self, ready: Ready)
+    pub(crate) fn give_back(&mut self, ready: CommittedChanges)
         requires { IsReadyIn self.old.pool ready }
         ensures strands { self.new.strands ≡ self.old.strands }
         ensures members { self.new.members ≡ self.old.members }
@@ -361,7 +361,7 @@ fn take_back_all(pool: &mut Pool, mut lent: Lent, xids: &[u32])
     }
 }
 
-/// Gives back the entries of those xids that are under this one. They stand behind it.
+/// Gives back the entries of those xids that are under this one. They stand after it.
 fn give_back_behind(pool: &mut Pool, strands: &HashMap<u32, Strand>, xids: &[u32], xid: u32)
     ensures whole { StaysWhole pool.old pool.new }
     ensures lent { StaysLent pool.old pool.new }

@@ -25,7 +25,7 @@ same_token a x b y e =
     let both : both_of a x ≡ both_of b y = cc in
     (ap (λ (p : Token × List ℕ). p.0) both, ap (λ (p : Token × List ℕ). p.1) both)
 
--- what stands at the front, behind the blanks
+-- what stands at the front, after the blanks
 pub record Front (bytes : List ℕ) (token : Token) (rest : List ℕ) : Type 0 where
   pub parts : bytes ≡ spelling_of_token token ++ rest
   pub whole : IsWhole token rest
@@ -103,7 +103,7 @@ plain_none false false false true is = absurd cc
 mark_none : (b : ℕ) → is_mark b ≡ true → (is_blank b ≡ false) × (eqb b NAME_QUOTE ≡ false) × (eqb b VALUE_QUOTE ≡ false)
 mark_none b is = (grind (arith, nat_tests), grind (arith, nat_tests), grind (arith, nat_tests))
 
--- what stands behind the blanks, and is read there
+-- what stands after the blanks, and is read there
 pub record Reads (bytes : List ℕ) (token : Token) (rest : List ℕ) : Type 0 where
   pub begins_so : begins is_blank bytes ≡ false
   pub read : token_from bytes ≡ token_found token rest

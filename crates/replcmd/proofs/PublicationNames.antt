@@ -43,7 +43,7 @@ front_is text n rest e = by_token (token_at text) refl e
     by_token None is e = absurd cc
     by_token (Some t) is e = by_name t.0 t.1 is (name_of t.0) refl e
 
--- ---- what stands behind a name
+-- ---- what stands after a name
 
 comma_found : (text next : List ℕ) → comma_at text ≡ found true next → text ≡ COMMA ∷ next
 comma_found [] next e = absurd (let no = (same_found false [] true next e).0 in cc)

@@ -99,7 +99,7 @@ setting_told ts s rest e =
     (cond (bytes_eq name.0 (codes "messages")) (messages_at name.1) (unserved_at (unserved_of name.0) name.1)))) (s, rest) e in
     by_name a.0.0 a.0.1 a.1 (bytes_eq a.0.0 (codes "proto_version")) refl (bytes_eq a.0.0 (codes "publication_names")) refl (bytes_eq a.0.0 (codes "messages")) refl a.2
   where
-    -- an option of this name, whose value stands behind it and says so
+    -- an option of this name, whose value stands after it and says so
     so : (n : List ℕ) (mid : List Token) → name_at ts ≡ found n mid → (t : Setting) → n ≡ option_name t → s ≡ t → (v : List ℕ) → mid ≡ Value v ∷ rest → IsValue t v → Told ts s rest
     so n mid read t is same v front says =
         let name : option_name s ≡ n = ap option_name same ∙ sym is in
@@ -140,7 +140,7 @@ told b = cond b 1 0
 counted : (s : Setting) (settings : List Setting) → count_by is_version (s ∷ settings) ≡ told (is_version s) + count_by is_version settings
 counted s settings = sum_by-cons (λ s. cond (is_version s) 1 0) s settings
 
--- what these come to, behind what was told before them
+-- what these come to, after what was told before them
 record Come (told_version : Bool) (told_names : Option (List (List ℕ))) (told_messages : Option Bool) (settings : List Setting) (options : StreamOptions) : Type 0 where
   version : count_by is_version settings + told told_version ≡ 1
   names : option_to_list told_names ++ filter_map publications_of settings ≡ options.publications ∷ []

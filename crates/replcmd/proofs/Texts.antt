@@ -56,7 +56,7 @@ unblanked_is_text (b ∷ bytes) valid = by_test (is_blank b) refl (λ blank. unb
     by_test true is inner = inner is
     by_test false is inner = valid
 
--- a front behind which nothing, or an ASCII byte, follows
+-- a front after which nothing, or an ASCII byte, follows
 front_is_text : (front rest : List ℕ) → begins is_plain rest ≡ false → IsUtf8 (front ++ rest) → IsUtf8 front × IsUtf8 rest
 front_is_text front [] end valid = (subst IsUtf8 (append-nil front) valid, IsUtf8-nil)
 front_is_text front (b ∷ rest) end valid =
@@ -88,7 +88,7 @@ quoted_is_text quote text n rest ascii valid e =
     let both = cut_at_ascii (with_doubled_quotes quote n) quote rest ascii (subst IsUtf8 taken.parts valid) in
     (undoubled quote [] n ascii both.0, both.1)
 
--- a token, and what stands behind it
+-- a token, and what stands after it
 spelled_is_text : (token : Token) (rest : List ℕ) → IsWhole token rest → IsUtf8 (spelling_of_token token ++ rest) → IsUtf8 rest
 spelled_is_text (Word w) rest whole valid = (front_is_text w rest whole.2 valid).1
 spelled_is_text (Quoted n) rest whole valid =

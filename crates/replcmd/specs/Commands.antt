@@ -1,5 +1,5 @@
--- Reading a command whole: its words, its list of options, and what stands behind it. What concerns the list of options as a whole is
--- judged behind all else.
+-- Reading a command whole: its words, its list of options, and what stands after it. What concerns the list of options as a whole is
+-- judged after all else.
 use Rattle.std.specs.Prelude.{ℕ, suc, ◌==◌, List, [], ◌∷◌, length, Result, Ok, Err, Bool, true, false, if◌then◌else◌, codes}
 use Rattle.std.specs.Str.{bytes_eq}
 use Rattle.replcmd.specs.declared.fault.CmdFault.{CmdFault}

@@ -39,7 +39,7 @@ IsPart (Chosen s) (Value u) = IsValue s u
 IsPart (Sign b) (Mark c) = c ≡ b
 IsPart _ _ = ⊥
 
--- behind the last part stands nothing, or one semicolon
+-- after the last part stands nothing, or one semicolon
 abbrev pub IsEnd : List Token → Type 0
 IsEnd [] = Unit {0}
 IsEnd (token ∷ []) = IsPart (Sign SEMICOLON) token

@@ -35,11 +35,11 @@ token_from (b ∷ bytes) =
 unfoldable pub token_at : List ℕ → Option (Token × List ℕ)
 token_at bytes = token_from (after_blanks bytes)
 
--- all tokens of a text, one behind the other
+-- all tokens of a text, one after the other
 abbrev pub Lexes : List ℕ → List Token → Type 0
 Lexes text [] = token_at text ≡ None
 Lexes text (token ∷ tokens) = (rest : List ℕ) × (token_at text ≡ Some (token, rest)) × Lexes rest tokens
 
--- a token, and the text behind it that a reader lends
+-- a token, and the text after it that a reader lends
 abbrev pub lent : Option (Token × Bor (List ℕ)) → Option (Token × List ℕ)
 lent found = option_map (λ x. (x.0, x.1.now)) found

@@ -41,7 +41,7 @@ pub enum Command {
 /// The command that the text spells, all of it.
 ///
 /// The leftmost fault is answered: C1 where the words are none of a command, C2 at a name that no slot can have, C3 at a
-/// word that is no position, C4 at what is left out here, C5 at an option or a value that isn't known; and behind all
+/// word that is no position, C4 at what is left out here, C5 at an option or a value that isn't known; and after all
 /// those C5 where an option stands twice or is missing. Or C6, out of memory.
 pub fn parse_command(alloc: Global, text: &str) -> Result<Command, CmdFault>
     // What is read is spelled so.

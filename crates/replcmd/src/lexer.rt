@@ -74,7 +74,7 @@ fn word_bytes(alloc: Global, text: &[u8]) -> Result<(Vec<u8>, &[u8]), AllocError
     Ok((found, rest))
 }
 
-/// The text up to the closing quote, behind the opening one, and what follows that; None where no quote closes it. A quote
+/// The text up to the closing quote, after the opening one, and what follows that; None where no quote closes it. A quote
 /// that is meant stands twice.
 pub fn quoted_of(alloc: Global, quote: u8, text: &[u8]) -> Result<Option<(Text, &[u8])>, AllocError>
     requires ascii { quote < 128 }
@@ -141,7 +141,7 @@ fn token_at_front(alloc: Global, text: &[u8]) -> Result<Option<(Token, &[u8])>, 
     Ok(Some((Token::Word(word), rest)))
 }
 
-/// The tokens of a text, one behind the other.
+/// The tokens of a text, one after the other.
 pub(crate) fn tokens_of(alloc: Global, text: &[u8]) -> Result<Vec<Token>, AllocError>
     requires { IsUtf8 text.now }
     ensures { IfOk result (λ tokens. Lexes text.now tokens.items) }

@@ -1,4 +1,11 @@
 //! The texts of the replication protocol: positions of the log, the commands that a client sends, and texts in quotes.
+//!
+//! `parse_command` reads a text as `Command`, or answers what is wrong with it; a file for each command (`identify.rt`,
+//! `create.rt`, `drop_slot.rt`, `start.rt`), over the tokens of `lexer.rt`. `position.rt` reads and writes a place of the log
+//! (`0/16B3748`), `setting.rt` the options of a stream.
+//!
+//! Read `command.rt`, then `start.rt`. Above, one contract is used: a text is a command exactly if it spells one, it spells no
+//! two (`no_text_spells_two_commands`), and else the fault is the one that PostgreSQL's order of reading meets first.
 #![tactic(auto)]
 
 mod command;

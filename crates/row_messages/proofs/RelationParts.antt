@@ -1,4 +1,4 @@
--- The columns of a Relation, written one behind the other.
+-- The columns of a Relation, written one after the other.
 use Rattle.std.proofs.Common.{◌≡◌, ℕ, zero, suc, subst, ◌+◌, ◌-◌, ◌*◌, ◌<◌, ◌≤◌, List, [], ◌∷◌, ◌++◌, drop, get_or, length, map, take, true, false, refl, sym, ap, ◌∙◌, append_assoc, append-nil, arith}
 use Rattle.std.specs.Prelude.{Bool}
 use Rattle.std.specs.List.{AllByRecursion, flat_map}
@@ -14,8 +14,7 @@ use Rattle.tables.specs.declared.column.Column.{Column}
 use Rattle.tables.specs.declared.identity.Identity.{Identity}
 use Rattle.tables.specs.declared.table.Table.{Table}
 use Rattle.publication_config.specs.Published.{is_identity, is_listed}
-use Rattle.row_messages.specs.declared.put_relation.TheConstants.{NO_MODIFIER}
-use Rattle.row_messages.specs.Kinds.{type_oid}
+use Rattle.row_messages.specs.Kinds.{type_modifier, type_oid}
 use Rattle.row_messages.specs.Relations.{identity_of, listed_items, relation_column, relation_of, table_as_published}
 use Rattle.pqformat.specs.Writing.{Writes}
 use Rattle.pqformat.proofs.Writing.{length_front, then}
@@ -66,10 +65,10 @@ all_told identity flags cs i at to old out high within p =
 
 -- a column, part by part
 pub column_written : (identity : Identity) (c : Column) (at flags name kind to : ℕ) (old a b d new : List ℕ) → Writes at flags old a (key_flag (is_identity identity c.is_key) ∷ []) → Writes flags name a b (string c.name)
-    → Writes name kind b d (int32 (type_oid c.kind)) → Writes kind to d new (int32 (cast_unsigned w32 NO_MODIFIER)) → Writes at to old new (column (relation_column identity c))
+    → Writes name kind b d (int32 (type_oid c.kind)) → Writes kind to d new (int32 (cast_unsigned w32 (type_modifier c.kind))) → Writes at to old new (column (relation_column identity c))
 column_written identity c at flags name kind to old a b d new f n k m =
-    then at flags to old a new (key_flag (is_identity identity c.is_key) ∷ []) (string c.name ++ (int32 (type_oid c.kind) ++ int32 (cast_unsigned w32 NO_MODIFIER))) f
-    (then flags name to a b new (string c.name) (int32 (type_oid c.kind) ++ int32 (cast_unsigned w32 NO_MODIFIER)) n (then name kind to b d new (int32 (type_oid c.kind)) (int32 (cast_unsigned w32 NO_MODIFIER)) k m))
+    then at flags to old a new (key_flag (is_identity identity c.is_key) ∷ []) (string c.name ++ (int32 (type_oid c.kind) ++ int32 (cast_unsigned w32 (type_modifier c.kind)))) f
+    (then flags name to a b new (string c.name) (int32 (type_oid c.kind) ++ int32 (cast_unsigned w32 (type_modifier c.kind))) n (then name kind to b d new (int32 (type_oid c.kind)) (int32 (cast_unsigned w32 (type_modifier c.kind))) k m))
 
 -- a Relation, part by part
 pub relation_written : (t : Table) (flags : List Bool) (kind oid schema name identity counted to n : ℕ) (old a b d e f g new : List ℕ) → Writes 0 kind old a (RELATION ∷ []) → Writes kind oid a b (int32 t.oid)

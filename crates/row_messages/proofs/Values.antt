@@ -19,9 +19,10 @@ use Rattle.tables.specs.declared.kinds.Value.{Value}
 use Rattle.tables.specs.declared.kinds.Value.TheVariants as values
 use Rattle.tables.specs.Kinds.{IsValue, spell_value, uuid_bytes}
 use Rattle.tables.proofs.Values.{length-uuid}
+use Rattle.data_types.proofs.Told.{modifier_in_range, oid_fits}
 use Rattle.uuid.specs.Text.{lower}
 use Rattle.uuid.proofs.TextLemmas.{by_index_length, hyphenated_ascii}
-use Rattle.row_messages.specs.Kinds.{cell_of, type_oid, uuid_text}
+use Rattle.row_messages.specs.Kinds.{cell_of, type_modifier, type_oid, uuid_text}
 
 pub type_fits : (k : Kind) → type_oid k < 2 ^ 32
 type_fits kinds.Bool = omega arith
@@ -30,6 +31,16 @@ type_fits kinds.Int4 = omega arith
 type_fits kinds.Int8 = omega arith
 type_fits kinds.Text = omega arith
 type_fits kinds.Uuid = omega arith
+type_fits (kinds.AsText data_type) = oid_fits data_type
+
+pub modifier_fits : (k : Kind) → FitsSigned w32 (type_modifier k)
+modifier_fits kinds.Bool = record { sfits = omega arith }
+modifier_fits kinds.Int2 = record { sfits = omega arith }
+modifier_fits kinds.Int4 = record { sfits = omega arith }
+modifier_fits kinds.Int8 = record { sfits = omega arith }
+modifier_fits kinds.Text = record { sfits = omega arith }
+modifier_fits kinds.Uuid = record { sfits = omega arith }
+modifier_fits (kinds.AsText data_type) = modifier_in_range data_type
 
 both_true : (a b : Bool) → (a && b) ≡ true → (a ≡ true) × (b ≡ true)
 both_true true b e = (refl, e)

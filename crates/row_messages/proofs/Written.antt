@@ -1,4 +1,4 @@
--- Texts that are written one behind the other into a slice.
+-- Texts that are written one after the other into a slice.
 use Rattle.std.proofs.Common.{◌≡◌, ℕ, suc, ◌+◌, ◌^◌, ◌<◌, ◌≤◌, Bool, true, false, cond, List, [], ◌∷◌, ◌++◌, drop, get_or, length, map, take, Option, Some, None, refl, sym, ap, subst, ◌∙◌, append_assoc, append-nil, arith}
 use Rattle.std.specs.List.{flat_map, list_any, zip}
 use Rattle.std.proofs.lemmas.List.{drop_all, get_or_default, length-append, length-map, length-take, take-append-le}
@@ -70,7 +70,7 @@ past flags xs i high = ap (listed_items (drop i flags)) (drop_all i xs high) ∙
 abbrev pub cells_from : {A : Type 0} → (A → Cell) → List Bool → List A → ℕ → List ℕ
 cells_from f flags xs i = flat_map cell (map f (listed_items (drop i flags) (drop i xs)))
 
--- what a loop over the columns keeps: what is written, and behind it the cells of the columns to come, are the whole
+-- what a loop over the columns keeps: what is written, and after it the cells of the columns to come, are the whole
 pub record IsPartOf {A : Type 0} (f : A → Cell) (flags : List Bool) (xs : List A) (i at : ℕ) (out whole : List ℕ) : Type 0 where
   pub parts : take at out ++ cells_from f flags xs i ≡ whole
   pub within : at ≤ length out

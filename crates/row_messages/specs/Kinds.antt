@@ -11,7 +11,8 @@ use Rattle.tables.specs.declared.kinds.Value.{Value}
 use Rattle.tables.specs.declared.kinds.Value.TheVariants as values
 use Rattle.tables.specs.Kinds.{uuid_bytes}
 use Rattle.uuid.specs.Text.{hyphenated_text, lower}
-use Rattle.row_messages.specs.declared.kinds.TheConstants.{BOOL_OID, INT2_OID, INT4_OID, INT8_OID, TEXT_OID, UUID_OID, MOST_RESENT}
+use Rattle.data_types.specs.DataTypes.{type_modifier as modifier_of_type, type_oid as oid_of_type}
+use Rattle.row_messages.specs.declared.kinds.TheConstants.{BOOL_OID, INT2_OID, INT4_OID, INT8_OID, TEXT_OID, UUID_OID, MOST_RESENT, NO_MODIFIER}
 
 abbrev pub type_oid : Kind → ℕ
 type_oid kinds.Bool = BOOL_OID
@@ -20,6 +21,11 @@ type_oid kinds.Int4 = INT4_OID
 type_oid kinds.Int8 = INT8_OID
 type_oid kinds.Text = TEXT_OID
 type_oid kinds.Uuid = UUID_OID
+type_oid (kinds.AsText data_type) = oid_of_type data_type
+
+abbrev pub type_modifier : Kind → ℤ
+type_modifier (kinds.AsText data_type) = modifier_of_type data_type
+type_modifier kind = NO_MODIFIER
 
 -- 32 hex digits in lower case, of which 8, 4, 4, 4 and 12 stand between hyphens
 unfoldable pub uuid_text : ℕ → List ℕ

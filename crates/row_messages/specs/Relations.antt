@@ -1,5 +1,5 @@
 -- What a column list leaves of a table, and the Relation of that (PostgreSQL 15, 31.4 and 55.9).
-use Rattle.std.specs.Prelude.{ℕ, ◌<◌, ◌≤◌, ◌^◌, Bool, List, [], ◌∷◌, map, length, if◌then◌else◌}
+use Rattle.std.specs.Prelude.{◌<◌, ◌≤◌, ◌^◌, Bool, List, [], ◌∷◌, map, length, if◌then◌else◌}
 use Rattle.std.specs.List.{AllByRecursion}
 use Rattle.pgoutput.specs.declared.relation.Relation.{Relation}
 use Rattle.pgoutput.specs.declared.relation.Column.{Column as ToldColumn}
@@ -11,8 +11,7 @@ use Rattle.tables.specs.declared.identity.Identity.TheVariants as identities
 use Rattle.tables.specs.declared.column.Column.{Column}
 use Rattle.tables.specs.declared.table.Table.{Table}
 use Rattle.publication_config.specs.Published.{is_identity}
-use Rattle.row_messages.specs.declared.put_relation.TheConstants.{NO_MODIFIER}
-use Rattle.row_messages.specs.Kinds.{type_oid}
+use Rattle.row_messages.specs.Kinds.{type_modifier, type_oid}
 
 -- what stands at the places that a list has, in its order; the rest is left out
 abbrev pub listed_items : {A : Type 0} → List Bool → List A → List A
@@ -30,7 +29,7 @@ identity_of identities.Nothing = told.Nothing
 identity_of identities.Full = told.Full
 
 abbrev pub relation_column : Identity → Column → ToldColumn
-relation_column identity c = record { is_key = is_identity identity c.is_key; name = c.name; kind = type_oid c.kind; modifier = NO_MODIFIER }
+relation_column identity c = record { is_key = is_identity identity c.is_key; name = c.name; kind = type_oid c.kind; modifier = type_modifier c.kind }
 
 -- the Relation of a table: its columns in table order
 abbrev pub relation_of : Table → Relation

@@ -1,11 +1,12 @@
 //! The kinds of columns, and all that this crate knows of each: the type that a Relation tells, and a value as the cell of a tuple.
 
 ghost use Rattle.std.specs.Prelude.{◌≡◌, ◌+◌, ◌<◌, ◌≤◌, ◌^◌, length};
+ghost use Rattle.std.specs.Int.{cast_unsigned, w32};
 ghost use Rattle.pgoutput.specs.Tuple.{cell};
 ghost use Rattle.pgoutput.specs.declared.tuple.Cell.TheVariants as cells;
 ghost use Rattle.pqformat.specs.Writing.{FitsRoom, Writes};
 ghost use Rattle.row_messages.specs.declared.kinds.TheConstants.{UUID_TEXT_LENGTH};
-ghost use Rattle.row_messages.specs.Kinds.{cell_of, is_long, is_the_uuid, same_value, type_oid, uuid_text};
+ghost use Rattle.row_messages.specs.Kinds.{cell_of, is_long, is_the_uuid, same_value, type_modifier, type_oid, uuid_text};
 ghost use Rattle.tables.specs.Kinds.{value_of};
 
 use itoa::Buffer;
@@ -27,6 +28,9 @@ pub const TEXT_OID: u32 = 25;
 
 pub const UUID_OID: u32 = 2950;
 
+/// The modifier of a column whose type has none.
+pub const NO_MODIFIER: i32 = -1;
+
 /// The longest text that the new tuple of an Update repeats though it didn't change, in bytes. PostgreSQL leaves out what it keeps
 /// out of line, which begins at about this length.
 pub(crate) const MOST_RESENT: usize = 2000;
@@ -41,7 +45,25 @@ pub(crate) fn oid_of(kind: Kind) -> u32
         Kind::Int8 => INT8_OID,
         Kind::Text => TEXT_OID,
         Kind::Uuid => UUID_OID,
+        Kind::AsText(data_type) => data_type.oid(),
     }
+}
+
+fn modifier_of(kind: Kind) -> i32
+    ensures { result ≡ type_modifier kind }
+{
+    match kind {
+        Kind::AsText(data_type) => data_type.modifier(),
+        Kind::Bool | Kind::Int2 | Kind::Int4 | Kind::Int8 => NO_MODIFIER,
+        Kind::Text | Kind::Uuid => NO_MODIFIER,
+    }
+}
+
+/// The modifier of a kind, as the field of a Relation has it.
+pub(crate) fn modifier_field(kind: Kind) -> u32
+    ensures { result ≡ cast_unsigned w32 (type_modifier kind) }
+{
+    modifier_of(kind).cast_unsigned()
 }
 
 /// How long the text of a UUID is.

@@ -12,14 +12,11 @@ ghost use Rattle.row_messages.specs.Relations.{FitsTable, identity_of, listed_it
 ghost use Rattle.pqformat.specs.Writing.{Writes};
 ghost use Rattle.row_messages.specs.Spelling.{HasRoom};
 
-use crate::kinds::oid_of;
+use crate::kinds::{modifier_field, oid_of};
 use pgoutput::{IDENTITY_DEFAULT, IDENTITY_FULL, IDENTITY_NOTHING, KEY_FLAG, NO_FLAG, RELATION};
 use pqformat::{write_byte, write_bytes, write_int16, write_int32};
 use publication_config::{is_in_identity, is_listed};
 use tables::{Column, Identity, Table};
-
-/// The modifier of a column whose type has none.
-pub const NO_MODIFIER: i32 = -1;
 
 /// The longest that the Relation tells of one column, in bytes: its flags, a name of 63 bytes with its end, its type and modifier.
 const MAX_COLUMN_LENGTH: usize = 73;
@@ -107,7 +104,7 @@ fn put_column(out: &mut [u8], at: usize, identity: Identity, told: &Column) -> u
     let flags = write_byte(out, at, flags_of(identity, told.is_key));
     let name = put_name(out, flags, told.name.as_str());
     let kind = write_int32(out, name, oid_of(told.kind));
-    write_int32(out, kind, NO_MODIFIER.cast_unsigned())
+    write_int32(out, kind, modifier_field(told.kind))
 }
 
 fn flags_of(identity: Identity, is_key: bool) -> u8

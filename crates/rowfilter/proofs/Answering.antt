@@ -7,7 +7,7 @@ use Rattle.tables.specs.declared.table.Table.{Table}
 use Rattle.conditions.specs.declared.fault.FilterFault.{FilterFault}
 use Rattle.conditions.specs.declared.fault.FilterFault.TheVariants.{Syntax, UnknownColumn, TypeMismatch, NumberRange, TooDeep, Memory}
 use Rattle.conditions.specs.declared.sort.Sort.{Sort}
-use Rattle.conditions.specs.declared.sort.Sort.TheVariants.{Any, Truths, Numbers, Texts, UuidTexts, Uuids}
+use Rattle.conditions.specs.declared.sort.Sort.TheVariants.{Any, Truths, Numbers, Texts, UuidTexts, Uuids, Incomparable}
 use Rattle.conditions.specs.declared.token.Token.{Token}
 use Rattle.rowfilter.specs.Answers.{Answers, condition_of, if_sorted, judged_condition, judged_condition_if, read_filter, read_tokens, tokens_in, tokens_within, with_more, without_levels}
 use Rattle.conditions.specs.Conditions.{Condition}
@@ -53,6 +53,7 @@ truths_alone (Some Numbers) sort is = absurd cc
 truths_alone (Some Texts) sort is = absurd cc
 truths_alone (Some UuidTexts) sort is = absurd cc
 truths_alone (Some Uuids) sort is = absurd cc
+truths_alone (Some Incomparable) sort is = absurd cc
 
 judged_due : (table : Table) (text : List ℕ) (c : Condition) → SpellsCondition table.columns text c → IsDue table text (judged_condition table.columns c)
 judged_due table text c means = by_known (are_known (length table.columns) c) refl

@@ -17,7 +17,7 @@ pub data Sign : Type 0 where
   AndSign : Sign
   OrSign : Sign
 
--- a tree with each joint behind its sides, in front of others
+-- a tree with each joint after its sides, in front of others
 abbrev pub signs : Condition → List Sign → List Sign
 signs (Column place) others = ColumnSign place ∷ others
 signs (Literal datum) others = LiteralSign datum ∷ others

@@ -17,11 +17,11 @@ enum Sought {
     Stranger,
     /// An integer of over 64 bits.
     LargeNumber,
-    /// The word behind which there are too many levels.
+    /// The word after which there are too many levels.
     Depth,
     /// A column that the table doesn't have.
     UnknownColumn,
-    /// The operand behind so many others.
+    /// The operand after so many others.
     Operand(usize),
 }
 
@@ -143,7 +143,7 @@ fn is_met(sought: Sought, place: &Place, word: &Word, columns: usize) -> bool {
     }
 }
 
-/// What is looked for behind this word.
+/// What is looked for after this word.
 fn behind(sought: Sought, place: &Place, word: &Word) -> Sought {
     match (sought, place, word) {
         (Sought::Operand(others), Place::Wanting, Word::Operand(_, _)) => {

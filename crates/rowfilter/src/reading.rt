@@ -72,7 +72,7 @@ fn part_of(alloc: Global, tokens: &[Token], columns: &[Column]) -> Result<Part, 
     whole(alloc, &mut pending, place)
 }
 
-/// The place behind the word of one token more.
+/// The place after the word of one token more.
 fn place_behind(
     alloc: Global,
     pending: &mut Vec<Pending>,

@@ -119,7 +119,7 @@ given_back name place ss rest new p q s back fault refusal done at value same ju
 
 -- ---- tables by name
 
--- OIDs behind others
+-- OIDs after others
 abbrev pub behind : List ℕ → Option (List ℕ) → Option (List ℕ)
 behind oids None = None
 behind oids (Some more) = Some (oids ++ more)

@@ -25,6 +25,7 @@ integer_in kinds.Int8 n = values.Int8 n
 integer_in kinds.Bool n = values.Int8 n
 integer_in kinds.Text n = values.Int8 n
 integer_in kinds.Uuid n = values.Int8 n
+integer_in (kinds.AsText data_type) n = values.Int8 n
 
 -- an integer that no column holds
 abbrev pub huge_in : Kind → Value
@@ -34,6 +35,7 @@ huge_in kinds.Int4 = values.Bool false
 huge_in kinds.Int8 = values.Bool false
 huge_in kinds.Text = values.Bool false
 huge_in kinds.Uuid = values.Bool false
+huge_in (kinds.AsText data_type) = values.Bool false
 
 abbrev pub uuid_or : Option ℕ → List ℕ → Value
 uuid_or None text = values.Text text

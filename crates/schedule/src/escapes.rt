@@ -1,4 +1,4 @@
-//! Texts with escapes, as PostgreSQL writes them behind `E'`.
+//! Texts with escapes, as PostgreSQL writes them after `E'`.
 
 use crate::bad_line::{BadLine, LineRefusal};
 use std::alloc::Global;
@@ -32,7 +32,7 @@ fn piece_of(text: &str) -> Result<(&str, &str), LineRefusal> {
         .ok_or(LineRefusal::Bad(BadLine::OpenText))
 }
 
-/// The content of these bytes, and what stands behind the closing quote.
+/// The content of these bytes, and what stands after the closing quote.
 fn close(bytes: Vec<u8>, mark: &str) -> Result<(String, &str), LineRefusal> {
     let behind = mark
         .strip_prefix('\'')
@@ -43,7 +43,7 @@ fn close(bytes: Vec<u8>, mark: &str) -> Result<(String, &str), LineRefusal> {
     }
 }
 
-/// Adds what an escape stands for, and answers what stands behind it.
+/// Adds what an escape stands for, and answers what stands after it.
 fn escape<'a>(bytes: &mut Vec<u8>, text: &'a str) -> Result<&'a str, LineRefusal> {
     let mut chars = text.chars();
     let letter = chars.next().ok_or(LineRefusal::Bad(BadLine::OpenText))?;
@@ -99,7 +99,7 @@ fn character<'a>(
     Ok(behind)
 }
 
-/// The number of up to so many hexadecimal digits, how many there are, and what stands behind them.
+/// The number of up to so many hexadecimal digits, how many there are, and what stands after them.
 fn hexadecimal(text: &str, most: usize) -> Result<(u32, usize, &str), LineRefusal> {
     let digits = text.bytes().take_while(|b| b.is_ascii_hexdigit());
     let count = digits.take(most).count();

@@ -47,7 +47,7 @@ pub enum SessionStep {
 /// What happens at a connection C, which has a sender, and a subscriber at its other end.
 #[derive(Debug, Drop)]
 pub enum ConnectionStep {
-    /// `start C SLOT POSITION PUB,PUB`, or the same with the word `messages` behind it: a sender starts. The slot `-` is
+    /// `start C SLOT POSITION PUB,PUB`, or the same with the word `messages` after it: a sender starts. The slot `-` is
     /// none.
     Start(Text, u64, StartOptions),
     /// `read C MAX CLOCK`: up to MAX records are fetched and fed.

@@ -10,7 +10,7 @@ use std::alloc::Global;
 /// The longest name of a transaction or a connection, in letters and digits.
 const NAME_LIMIT: usize = 32;
 
-/// The fields of a line that are still to be read: none behind its last one.
+/// The fields of a line that are still to be read: none after its last one.
 #[derive(Drop)]
 pub(crate) struct Fields<'a> {
     rest: Option<&'a str>,
@@ -98,7 +98,7 @@ impl<'a> Fields<'a> {
         Ok(text)
     }
 
-    /// Goes on with what stands behind a field: nothing, or a space and the next field.
+    /// Goes on with what stands after a field: nothing, or a space and the next field.
     fn go_on(&mut self, behind: &'a str) -> Result<(), LineRefusal> {
         if !behind.is_empty() {
             let next = behind.strip_prefix(' ');

@@ -4,6 +4,9 @@
 //! `Schedule::parse` reads a text, `Answer` is what an event answered, and `write_refusals`, `write_stream`, `write_slot` and
 //! `write_subscriber` print. `Sessions::line` does the line of a session: it begins, changes or ends a transaction, or sets and leaves
 //! its savepoints, by one call of the publisher. Crate `world` runs the other events.
+//!
+//! Read `event.rt`, `parse.rt`, `sessions.rt`, `answer.rt`. Above, `world` and `pubd` use one contract: a session's line makes
+//! its one call of the publisher, or is refused as a bad line exactly where a rule says (`Sessions::line`: `done`, `bad`).
 #![tactic(auto)]
 
 mod answer;

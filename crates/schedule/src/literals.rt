@@ -6,7 +6,7 @@ use crate::event::Literal;
 use pqformat::{Items, Text};
 use std::alloc::Global;
 
-/// The values of the row that a text begins with, such as `(1,'ab',null)`, and what stands behind it. There are none in `()`.
+/// The values of the row that a text begins with, such as `(1,'ab',null)`, and what stands after it. There are none in `()`.
 pub(crate) fn row_in(
     alloc: Global,
     text: &str,
@@ -36,7 +36,7 @@ pub(crate) fn row_in(
     Err(LineRefusal::Bad(BadLine::Row))
 }
 
-/// The value that a text begins with, and what stands behind it.
+/// The value that a text begins with, and what stands after it.
 fn literal_of(alloc: Global, text: &str, dialect: Dialect) -> Result<(Literal, &str), LineRefusal> {
     if text.starts_with('\'') || has_escapes(text, dialect) {
         let (content, behind) = text_in(alloc, text, dialect)?;
@@ -56,7 +56,7 @@ fn has_escapes(text: &str, dialect: Dialect) -> bool {
     dialect == Dialect::Script && text.starts_with("E'")
 }
 
-/// The content of the quoted text that a text begins with, such as `'it''s'`, and what stands behind it.
+/// The content of the quoted text that a text begins with, such as `'it''s'`, and what stands after it.
 pub(crate) fn text_in(
     alloc: Global,
     text: &str,

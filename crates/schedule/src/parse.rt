@@ -48,7 +48,7 @@ fn event_of(alloc: Global, word: &str, fields: &mut Fields<'_>) -> Result<Event,
     }
 }
 
-/// What the line of a session does behind its transaction's name. None: it is no session's.
+/// What the line of a session does after its transaction's name. None: it is no session's.
 fn session_step_of(
     alloc: Global,
     word: &str,
@@ -71,7 +71,7 @@ fn session_step_of(
     Ok(Some(step))
 }
 
-/// What the line of a connection does behind its name.
+/// What the line of a connection does after its name.
 fn connection_step_of(
     alloc: Global,
     word: &str,

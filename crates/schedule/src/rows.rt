@@ -45,7 +45,7 @@ pub(crate) fn key_of(
     Ok(Row::new(values))
 }
 
-/// The kind of the first column of the primary key, and the columns behind it.
+/// The kind of the first column of the primary key, and the columns after it.
 fn first_key_of(columns: &[Column]) -> (Kind, &[Column])
     ensures kind { result.0 ≡ first_kind (key_columns columns.now) }
     ensures rest { key_columns result.1.now ≡ drop 1 (key_columns columns.now) }
@@ -60,7 +60,7 @@ fn first_key_of(columns: &[Column]) -> (Kind, &[Column])
     (Kind::Int8, left)
 }
 
-/// The kind of the first column, and the columns behind it.
+/// The kind of the first column, and the columns after it.
 fn first_of(columns: &[Column]) -> (Kind, &[Column])
     ensures kind { result.0 ≡ first_kind columns.now }
     ensures rest { result.1.now ≡ drop 1 columns.now }
@@ -92,9 +92,8 @@ fn text_of(alloc: Global, kind: Kind, text: &Text) -> Result<Value, AllocError>
             Some(n) => Ok(Value::Uuid(n)),
             None => Ok(Value::Text(text.copy(alloc)?)),
         },
-        Kind::Bool | Kind::Int2 | Kind::Int4 | Kind::Int8 | Kind::Text => {
-            Ok(Value::Text(text.copy(alloc)?))
-        }
+        Kind::Bool | Kind::Int2 | Kind::Int4 | Kind::Int8 => Ok(Value::Text(text.copy(alloc)?)),
+        Kind::Text | Kind::AsText(_) => Ok(Value::Text(text.copy(alloc)?)),
     }
 }
 
@@ -111,7 +110,7 @@ fn integer_of(kind: Kind, n: i64) -> Value
             Ok(small) => Value::Int4(small),
             Err(_) => Value::Int8(n),
         },
-        Kind::Bool | Kind::Int8 | Kind::Text | Kind::Uuid => Value::Int8(n),
+        Kind::Bool | Kind::Int8 | Kind::Text | Kind::Uuid | Kind::AsText(_) => Value::Int8(n),
     }
 }
 
@@ -121,6 +120,7 @@ fn huge_of(kind: Kind) -> Value
 {
     match kind {
         Kind::Bool => Value::Int8(0),
-        Kind::Int2 | Kind::Int4 | Kind::Int8 | Kind::Text | Kind::Uuid => Value::Bool(false),
+        Kind::Int2 | Kind::Int4 | Kind::Int8 => Value::Bool(false),
+        Kind::Text | Kind::Uuid | Kind::AsText(_) => Value::Bool(false),
     }
 }

@@ -2,7 +2,7 @@
 
 use pqformat::{Items, Text};
 
-/// What a line `start` says of the stream behind slot and position, as the options of START_REPLICATION do (PostgreSQL 15,
+/// What a line `start` says of the stream after slot and position, as the options of START_REPLICATION do (PostgreSQL 15,
 /// 55.5).
 #[derive(Debug, Drop)]
 pub struct StartOptions {

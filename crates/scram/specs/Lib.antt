@@ -12,3 +12,5 @@ pub mod Exchanges
 pub mod UserLines
 pub mod Told
 pub mod Logins
+pub mod Challenges
+pub mod ClientExchanges

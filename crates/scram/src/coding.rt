@@ -1,15 +1,18 @@
 //! Bytes as text in base64 (RFC 4648, 4).
 
 ghost use Rattle.std.specs.Prelude.{◌≡◌, ◌==◌, length, Some, None, IfOk, string_bytes, if◌then◌else◌};
+ghost use Rattle.base64.specs.Engines.{standard};
+ghost use Rattle.base64.specs.GeneralPurpose.{decoded_of};
 ghost use Rattle.scram.specs.Coding.{base64, spelled};
 
 use base64::DecodeAllocError;
 use base64::engine::general_purpose::STANDARD;
+use pqformat::Items;
 use std::alloc::{AllocError, Global};
 
 /// The text of these bytes.
 #[tactic(auto, unfolding(crate::specs::Coding::base64))]
-pub(crate) fn base64_of(alloc: Global, bytes: &[u8]) -> Result<String, AllocError>
+pub fn base64_of(alloc: Global, bytes: &[u8]) -> Result<String, AllocError>
     ensures { IfOk result (λ text. string_bytes text ≡ base64 bytes.now) }
 {
     STANDARD.encode(alloc, bytes)
@@ -25,6 +28,18 @@ pub(crate) fn spelled<const N: usize>(
 {
     match STANDARD.decode(alloc, text) {
         Ok(bytes) => Ok(sized(bytes.as_slice())),
+        Err(DecodeAllocError::OutOfMemory) => Err(AllocError),
+        Err(DecodeAllocError::DecodeError(_)) => Ok(None),
+    }
+}
+
+/// The bytes that the text spells, if it spells any.
+#[tactic(auto, unfolding(base64::specs::GeneralPurpose::decoded_of))]
+pub(crate) fn decoded(alloc: Global, text: &[u8]) -> Result<Option<Items<u8>>, AllocError>
+    ensures { IfOk result (λ found. found ≡ decoded_of standard text.now) }
+{
+    match STANDARD.decode(alloc, text) {
+        Ok(bytes) => Ok(Some(Items::new(bytes))),
         Err(DecodeAllocError::OutOfMemory) => Err(AllocError),
         Err(DecodeAllocError::DecodeError(_)) => Ok(None),
     }

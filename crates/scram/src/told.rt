@@ -7,7 +7,7 @@ use crate::fault::{ExchangeFault, Malformed};
 use std::alloc::{AllocError, Global};
 
 impl ExchangeFault {
-    /// The code (PostgreSQL 15, appendix A) and the text; of a wrong password PostgreSQL names the user behind it.
+    /// The code (PostgreSQL 15, appendix A) and the text; of a wrong password PostgreSQL names the user after it.
     pub fn told(self) -> (&'static str, &'static str)
         ensures code { result.0.now ≡ fault_code self }
         ensures text { result.1.now ≡ fault_text self }

@@ -20,7 +20,7 @@ limited kind most e of allowed = some_is most FRAME_LIMIT (sym allowed ∙ rw of
 length-frame : (kind : ℕ) (body : List ℕ) → length (frame kind body) ≡ 5 + length body
 length-frame kind body = omega (arith, length-append (int32 (4 + length body)) body, length-int32 (4 + length body))
 
--- what stands behind the type byte is whole
+-- what stands after the type byte is whole
 raw_found : (bytes : List ℕ) (raw : Option ((ℕ × List ℕ) × ℕ)) (e : Extended) (n : ℕ) → IsBytes bytes → raw_at extended_limit bytes ≡ Ok raw → extended_raw raw ≡ Ok (Some (e, n)) → (0 < n) × (n ≤ length bytes) × SpellsExtended (take n bytes) e
 raw_found bytes None e n fits is made = absurd cc
 raw_found bytes (Some raw) e n fits is made =

@@ -117,7 +117,7 @@ behind_text (b ∷ bytes) rest ascii valid =
     both true q e = (refl, e)
     both false q e = absurd cc
 
--- the same of a list that stands behind a front
+-- the same of a list that stands after a front
 pub list_behind : (text front list : List ℕ) (r : Result (Option (List (List ℕ))) AllocError) → text ≡ front ++ list
     → IfOk r (λ found. MatchOption found ((names : List (List ℕ)) → SpellsNames list names → ⊥) (λ names. SpellsNames list names))
     → IfOk r (λ found. MatchOption found ((other : List ℕ) (names : List (List ℕ)) → text ≡ front ++ other → SpellsNames other names → ⊥) (λ names. (other : List ℕ) × (text ≡ front ++ other) × SpellsNames other names))

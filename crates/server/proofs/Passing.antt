@@ -1,4 +1,4 @@
--- Turns of a session in which the desk is asked nothing.
+-- Turns of a session in which the backend is asked nothing.
 use Rattle.std.proofs.Common.{◌≡◌, ℕ, zero, suc, ◌<◌, ◌≤◌, true, false, List, [], ◌∷◌, ◌++◌, length, take, Result, Ok, Err, refl, sym, ap, subst, ◌∙◌, inl, inr, arith}
 use Rattle.std.specs.Prelude.{◌≢◌, IfOk, OnOk}
 use Rattle.std.specs.declared.alloc.AllocError.{AllocError}

@@ -1,4 +1,4 @@
--- Segments of a conversation: one that goes no further, one turn, and one behind the other.
+-- Segments of a conversation: one that goes no further, one turn, and one after the other.
 use Rattle.std.proofs.Common.{◌≡◌, ℕ, ◌+◌, ◌<◌, List, [], ◌∷◌, ◌++◌, length, take, get_or, Result, Ok, Err, refl, sym, ap, subst, ◌∙◌, inl, inr, append_assoc, arith}
 use Rattle.std.specs.Prelude.{◌≢◌, ◌⊎◌}
 use Rattle.std.specs.List.{flat_map, AllByRecursion}
@@ -56,16 +56,16 @@ went-append told Kind x y a d out b e mid c f end first then = record {
       ∙ ap (λ (l : List ℕ). out ++ l) (sym (flat_map-append (λ (t : Turn). t.said) first.turns then.turns));
 }
 
--- no turn: what came is left behind what was left
+-- no turn: what came is left after what was left
 pub went-none : {D : Type 0} (told : D → Call → D → Type 0) (Kind : Turn → Type 0) (x : List ℕ) (a : Connection) (d : D) (out : List ℕ) (b : Connection) (e : D) (end : List ℕ)
     → b.service ≡ a.service → b.stage ≡ a.stage → b.pending.items ≡ a.pending.items ++ x → e ≡ d → end ≡ out → Went told Kind x a d out b e end
-went-none told Kind x a d out b e end service stage pending desk says = record {
+went-none told Kind x a d out b e end service stage pending backend says = record {
   turns = [];
   kind = tt;
   same = service;
   follow = stage;
   spell = sym pending;
-  ask = desk;
+  ask = backend;
   say = says ∙ sym (append-nil out);
 }
 
@@ -115,21 +115,21 @@ went-any told x a d out b e end went = record { turns = went.turns; kind = are-a
 
 -- ---- from a new connection on
 
-pub record Began {D : Type 0} (told : D → Call → D → Type 0) (service : Service) (input : List ℕ) (desk : D) (out : List ℕ) (new : Connection) (desk' : D) (out' : List ℕ) : Type 0 where
+pub record Began {D : Type 0} (told : D → Call → D → Type 0) (service : Service) (input : List ℕ) (backend : D) (out : List ℕ) (new : Connection) (backend' : D) (out' : List ℕ) : Type 0 where
   pub old : Connection
   pub numbered : old.service ≡ service
   pub fresh : old.stage ≡ Fresh
   pub empty : old.pending.items ≡ []
-  pub went : Went told IsAny input old desk out new desk' out'
+  pub went : Went told IsAny input old backend out new backend' out'
   pub waits : HaveEnded went.turns ⊎ Waits new.stage new.pending.items
 
-pub began : {D : Type 0} (told : D → Call → D → Type 0) (service : Service) (c : Connection) (desk : D) (out : List ℕ) → c.service ≡ service → c.stage ≡ Fresh → c.pending.items ≡ [] → Began told service [] desk out c desk out
-began told service c desk out numbered fresh empty = record {
+pub began : {D : Type 0} (told : D → Call → D → Type 0) (service : Service) (c : Connection) (backend : D) (out : List ℕ) → c.service ≡ service → c.stage ≡ Fresh → c.pending.items ≡ [] → Began told service [] backend out c backend out
+began told service c backend out numbered fresh empty = record {
   old = c;
   numbered = numbered;
   fresh = fresh;
   empty = empty;
-  went = went-none told IsAny [] c desk out c desk out refl refl (sym (append-nil c.pending.items)) refl refl;
+  went = went-none told IsAny [] c backend out c backend out refl refl (sym (append-nil c.pending.items)) refl refl;
   waits = inr (rw (fresh, empty) refl);
 }
 
@@ -166,14 +166,14 @@ either Closed A B is = inr is
 
 all-sent : {D : Type 0} (told : D → Call → D → Type 0) (service : Service) (x : List ℕ) (d : D) (out : List ℕ) (b : Connection) (e : D) (mid : List ℕ) (c : Connection) (f : D) (end : List ℕ)
     → Began told service x d out b e mid → f ≡ e → Ended b mid c end ⊎ ((c ≡ b) × (end ≡ mid)) → Began told service (x ++ []) d out c f end
-all-sent told service x d out b e mid c f end first desk (inl then) = rw desk (began-ended told service x d out b e mid c end first then)
-all-sent told service x d out b e mid c f end first desk (inr (same, says)) = rw (desk, same, says, append-nil x) first
+all-sent told service x d out b e mid c f end first backend (inl then) = rw backend (began-ended told service x d out b e mid c end first then)
+all-sent told service x d out b e mid c f end first backend (inr (same, says)) = rw (backend, same, says, append-nil x) first
 
 -- one more event
 pub began-on : {D : Type 0} (told : D → Call → D → Type 0) (service : Service) (x : List ℕ) (d : D) (out : List ℕ) (b : Connection) (e : D) (mid : List ℕ) (event : Event) (c : Connection) (f : D) (end : List ℕ)
     → Began told service x d out b e mid → Happened told event b e mid c f end → Began told service (x ++ bytes_heard event) d out c f end
 began-on told service x d out b e mid (Came bytes) c f end first then = began-took told service x bytes.items d out b e mid c f end first then.0 then.1
-began-on told service x d out b e mid AllSent c f end first (desk, then) = all-sent told service x d out b e mid c f end first desk (either b.stage (Ended b mid c end) ((c ≡ b) × (end ≡ mid)) then)
+began-on told service x d out b e mid AllSent c f end first (backend, then) = all-sent told service x d out b e mid c f end first backend (either b.stage (Ended b mid c end) ((c ≡ b) × (end ≡ mid)) then)
 
 -- ---- whether a stream stops
 
@@ -193,9 +193,9 @@ unless_stopping (Skipping database) A B other b = b
 unless_stopping (Streaming database) A B other b = b
 unless_stopping Closed A B other b = b
 
-pub conversed : {D : Type 0} (told : D → Call → D → Type 0) (service : Service) (input : List ℕ) (desk : D) (out : List ℕ) (new : Connection) (desk' : D) (out' : List ℕ)
-    → Began told service input desk out new desk' out' → Gave told (λ asked said. IsConversation service input asked said) desk out desk' out'
-conversed told service input desk out new desk' out' b = record {
+pub conversed : {D : Type 0} (told : D → Call → D → Type 0) (service : Service) (input : List ℕ) (backend : D) (out : List ℕ) (new : Connection) (backend' : D) (out' : List ℕ)
+    → Began told service input backend out new backend' out' → Gave told (λ asked said. IsConversation service input asked said) backend out backend' out'
+conversed told service input backend out new backend' out' b = record {
   asked = flat_map (λ t. t.asked) b.went.turns;
   text = flat_map (λ t. t.said) b.went.turns;
   fact = record {

@@ -1,4 +1,4 @@
--- Texts that are added one behind the other.
+-- Texts that are added one after the other.
 use Rattle.std.proofs.Common.{◌≡◌, ℕ, List, ◌++◌, Result, Ok, Err, ap, ◌∙◌, append_assoc}
 use Rattle.std.specs.declared.alloc.AllocError.{AllocError}
 use Rattle.pqformat.specs.Putting.{Puts}

@@ -64,12 +64,12 @@ front_of_some n bytes le some = rw (length-take-le n bytes le) at some
 
 -- ---- turns
 
-pub front_turned : {D : Type 0} (told : D → Call → D → Type 0) (service : Service) (stage : Stage) (Answers : Front → List Call → List ℕ → Stage → Type 0) (pending : List ℕ) (count : ℕ) (front : Front) (next : Stage) (Same : Type 0) (desk : D) (out : List ℕ) (desk' : D) (out' : List ℕ)
+pub front_turned : {D : Type 0} (told : D → Call → D → Type 0) (service : Service) (stage : Stage) (Answers : Front → List Call → List ℕ → Stage → Type 0) (pending : List ℕ) (count : ℕ) (front : Front) (next : Stage) (Same : Type 0) (backend : D) (out : List ℕ) (backend' : D) (out' : List ℕ)
     → ((t : Turn) (n : Stage) → t.text ≡ take count pending → IsFrameTurn Answers t n → IsTurn service stage t n)
     → count ≤ length pending → SpellsFront (take count pending) front → IsShortFront front
-    → Gave told (λ asked said. Answers front asked said next) desk out desk' out'
-    → IsTurned service stage pending (record { stage = next; count = count }) Same (λ fact. Gave told fact desk out desk' out')
-front_turned told service stage Answers pending count front next Same desk out desk' out' turn le spells short gave = inr (
+    → Gave told (λ asked said. Answers front asked said next) backend out backend' out'
+    → IsTurned service stage pending (record { stage = next; count = count }) Same (λ fact. Gave told fact backend out backend' out')
+front_turned told service stage Answers pending count front next Same backend out backend' out' turn le spells short gave = inr (
   front_of_some count pending le (front_has (take count pending) front spells),
   le,
   record {
@@ -81,11 +81,11 @@ front_turned told service stage Answers pending count front next Same desk out d
   },
 )
 
-pub front_refused : {D : Type 0} (told : D → Call → D → Type 0) (service : Service) (stage : Stage) (Answers : Front → List Call → List ℕ → Stage → Type 0) (pending : List ℕ) (fault : FrameFault) (Same : Type 0) (desk : D) (out out' : List ℕ)
+pub front_refused : {D : Type 0} (told : D → Call → D → Type 0) (service : Service) (stage : Stage) (Answers : Front → List Call → List ℕ → Stage → Type 0) (pending : List ℕ) (fault : FrameFault) (Same : Type 0) (backend : D) (out out' : List ℕ)
     → ((t : Turn) (n : Stage) → t.text ≡ take (length pending) pending → IsFrameTurn Answers t n → IsTurn service stage t n)
     → fault ≢ Memory → Gives (Err fault) (framed_front pending) → out' ≡ out ++ error_of_refusal (refusal_of fault)
-    → IsTurned service stage pending (record { stage = Closed; count = length pending }) Same (λ fact. Gave told fact desk out desk out')
-front_refused told service stage Answers pending fault Same desk out out' turn other gives says =
+    → IsTurned service stage pending (record { stage = Closed; count = length pending }) Same (λ fact. Gave told fact backend out backend out')
+front_refused told service stage Answers pending fault Same backend out out' turn other gives says =
     let is : framed_front pending ≡ Err fault = read_fault fault (framed_front pending) other gives in
     let whole : take (length pending) pending ≡ pending = take_all (length pending) pending (omega arith) in
     inr (
@@ -121,19 +121,19 @@ startup_refused service pending fault Same out out' other gives says =
       record { text = error_of_refusal (refusal_of fault); fact = inr (fault, rw whole is, (refl, refl, refl)); says = says },
     )
 
-pub quiet_turned : {D : Type 0} (told : D → Call → D → Type 0) (service : Service) (stage : Stage) (pending : List ℕ) (desk : D) (out out' : List ℕ) (r : Result Turned AllocError)
-    → IfOk r (λ t. IsTurned service stage pending t (out' ≡ out) (λ fact. Said fact out out')) → OnErr r (Extends out out') → TakesTurn told service stage pending r desk out desk out'
-quiet_turned told service stage pending desk out out' (Ok t) (inl (none, same, waits, kept)) keeps = inl (none, same, waits, (refl, kept))
-quiet_turned told service stage pending desk out out' (Ok t) (inr (some, le, said)) keeps = inr (some, le, record { asked = []; text = said.text; fact = said.fact; asks = refl; says = said.says })
-quiet_turned told service stage pending desk out out' (Err e) is keeps = (nothing_tried told (Asks service stage pending) desk, keeps)
+pub quiet_turned : {D : Type 0} (told : D → Call → D → Type 0) (service : Service) (stage : Stage) (pending : List ℕ) (backend : D) (out out' : List ℕ) (r : Result Turned AllocError)
+    → IfOk r (λ t. IsTurned service stage pending t (out' ≡ out) (λ fact. Said fact out out')) → OnErr r (Extends out out') → TakesTurn told service stage pending r backend out backend out'
+quiet_turned told service stage pending backend out out' (Ok t) (inl (none, same, waits, kept)) keeps = inl (none, same, waits, (refl, kept))
+quiet_turned told service stage pending backend out out' (Ok t) (inr (some, le, said)) keeps = inr (some, le, record { asked = []; text = said.text; fact = said.fact; asks = refl; says = said.says })
+quiet_turned told service stage pending backend out out' (Err e) is keeps = (nothing_tried told (Asks service stage pending) backend, keeps)
 
 -- what the answer of a frame tried, its turn tried
-pub front_tried : {D : Type 0} (told : D → Call → D → Type 0) (service : Service) (stage : Stage) (Answers : Front → List Call → List ℕ → Stage → Type 0) (pending : List ℕ) (count : ℕ) (front : Front) (desk desk' : D)
+pub front_tried : {D : Type 0} (told : D → Call → D → Type 0) (service : Service) (stage : Stage) (Answers : Front → List Call → List ℕ → Stage → Type 0) (pending : List ℕ) (count : ℕ) (front : Front) (backend backend' : D)
     → ((t : Turn) (n : Stage) → t.text ≡ take count pending → IsFrameTurn Answers t n → IsTurn service stage t n)
     → SpellsFront (take count pending) front → IsShortFront front
-    → Tried told (λ asked. (next : Stage) × (text : List ℕ) × Answers front asked text next) desk desk' → Tried told (Asks service stage pending) desk desk'
-front_tried told service stage Answers pending count front desk desk' turn spells short tried =
-    tried_as told (λ asked. (next : Stage) × (text : List ℕ) × Answers front asked text next) (Asks service stage pending) desk desk'
+    → Tried told (λ asked. (next : Stage) × (text : List ℕ) × Answers front asked text next) backend backend' → Tried told (Asks service stage pending) backend backend'
+front_tried told service stage Answers pending count front backend backend' turn spells short tried =
+    tried_as told (λ asked. (next : Stage) × (text : List ℕ) × Answers front asked text next) (Asks service stage pending) backend backend'
     (λ asked part. (
       record { text = take count pending; asked = asked; said = part.1 },
       part.0,
@@ -143,22 +143,22 @@ front_tried told service stage Answers pending count front desk desk' turn spell
       sym (take-append-drop count pending),
     )) tried
 
-pub closed_turned : {D : Type 0} (told : D → Call → D → Type 0) (service : Service) (pending : List ℕ) (desk : D) (out : List ℕ)
-    → IsTurned service Closed pending (record { stage = Closed; count = length pending }) ((desk ≡ desk) × (out ≡ out)) (λ fact. Gave told fact desk out desk out)
-closed_turned told service [] desk out = inl (refl, refl, refl, (refl, refl))
-closed_turned told service (b ∷ bytes) desk out = inr (omega arith, omega arith, record { asked = []; text = []; fact = (refl, refl, refl); asks = refl; says = sym (append-nil out) })
+pub closed_turned : {D : Type 0} (told : D → Call → D → Type 0) (service : Service) (pending : List ℕ) (backend : D) (out : List ℕ)
+    → IsTurned service Closed pending (record { stage = Closed; count = length pending }) ((backend ≡ backend) × (out ≡ out)) (λ fact. Gave told fact backend out backend out)
+closed_turned told service [] backend out = inl (refl, refl, refl, (refl, refl))
+closed_turned told service (b ∷ bytes) backend out = inr (omega arith, omega arith, record { asked = []; text = []; fact = (refl, refl, refl); asks = refl; says = sym (append-nil out) })
 
 -- ---- what can't be read
 
-pub refused_takes : {D : Type 0} (told : D → Call → D → Type 0) (service : Service) (stage : Stage) (Answers : Front → List Call → List ℕ → Stage → Type 0) (pending : List ℕ) (fault : FrameFault) (desk : D) (out out' : List ℕ) (r : Result Turned AllocError)
+pub refused_takes : {D : Type 0} (told : D → Call → D → Type 0) (service : Service) (stage : Stage) (Answers : Front → List Call → List ℕ → Stage → Type 0) (pending : List ℕ) (fault : FrameFault) (backend : D) (out out' : List ℕ) (r : Result Turned AllocError)
     → ((t : Turn) (n : Stage) → t.text ≡ take (length pending) pending → IsFrameTurn Answers t n → IsTurn service stage t n)
     → Gives (Err fault) (framed_front pending)
     → OnOk r (fault ≢ Memory) → IfOk r (λ t. t ≡ record { stage = Closed; count = length pending }) → OnOk r (out' ≡ out ++ error_of_refusal (refusal_of fault)) → OnErr r (Extends out out')
-    → TakesTurn told service stage pending r desk out desk out'
-refused_takes told service stage Answers pending fault desk out out' (Ok t) turn gives other is says keeps =
-    subst (λ (x : Turned). IsTurned service stage pending x ((desk ≡ desk) × (out' ≡ out)) (λ fact. Gave told fact desk out desk out')) (sym is)
-    (front_refused told service stage Answers pending fault ((desk ≡ desk) × (out' ≡ out)) desk out out' turn other gives says)
-refused_takes told service stage Answers pending fault desk out out' (Err e) turn gives other is says keeps = (nothing_tried told (Asks service stage pending) desk, keeps)
+    → TakesTurn told service stage pending r backend out backend out'
+refused_takes told service stage Answers pending fault backend out out' (Ok t) turn gives other is says keeps =
+    subst (λ (x : Turned). IsTurned service stage pending x ((backend ≡ backend) × (out' ≡ out)) (λ fact. Gave told fact backend out backend out')) (sym is)
+    (front_refused told service stage Answers pending fault ((backend ≡ backend) × (out' ≡ out)) backend out out' turn other gives says)
+refused_takes told service stage Answers pending fault backend out out' (Err e) turn gives other is says keeps = (nothing_tried told (Asks service stage pending) backend, keeps)
 
 pub startup_refused_turned : (service : Service) (pending : List ℕ) (fault : FrameFault) (out out' : List ℕ) (r : Result Turned AllocError)
     → Gives (Err fault) (framed_startup pending)
@@ -171,14 +171,14 @@ startup_refused_turned service pending fault out out' (Err e) gives other is say
 
 -- ---- the connection after a turn
 
-pub turned_went : {D : Type 0} (told : D → Call → D → Type 0) (old : Connection) (desk : D) (out : List ℕ) (t : Turned) (new : Connection) (desk' : D) (out' : List ℕ)
+pub turned_went : {D : Type 0} (told : D → Call → D → Type 0) (old : Connection) (backend : D) (out : List ℕ) (t : Turned) (new : Connection) (backend' : D) (out' : List ℕ)
     → new.service ≡ old.service → new.stage ≡ t.stage → new.pending.items ≡ drop t.count old.pending.items
-    → IsTurned old.service old.stage old.pending.items t ((desk' ≡ desk) × (out' ≡ out)) (λ fact. Gave told fact desk out desk' out')
-    → Went told HasText [] old desk out new desk' out'
-turned_went told old desk out t new desk' out' service stage pending (inl (none, same, waits, (desks, outs))) =
-    went-none told HasText [] old desk out new desk' out' service (stage ∙ same) (pending ∙ ap (λ (n : ℕ). drop n old.pending.items) none ∙ sym (append-nil old.pending.items)) desks outs
-turned_went told old desk out t new desk' out' service stage pending (inr (some, le, gave)) =
-    went-one told HasText [] old desk out new desk' out' (record { text = take t.count old.pending.items; asked = gave.asked; said = gave.text }) (rw (length-take-le t.count old.pending.items le) some) service (rw stage gave.fact)
+    → IsTurned old.service old.stage old.pending.items t ((backend' ≡ backend) × (out' ≡ out)) (λ fact. Gave told fact backend out backend' out')
+    → Went told HasText [] old backend out new backend' out'
+turned_went told old backend out t new backend' out' service stage pending (inl (none, same, waits, (backends, outs))) =
+    went-none told HasText [] old backend out new backend' out' service (stage ∙ same) (pending ∙ ap (λ (n : ℕ). drop n old.pending.items) none ∙ sym (append-nil old.pending.items)) backends outs
+turned_went told old backend out t new backend' out' service stage pending (inr (some, le, gave)) =
+    went-one told HasText [] old backend out new backend' out' (record { text = take t.count old.pending.items; asked = gave.asked; said = gave.text }) (rw (length-take-le t.count old.pending.items le) some) service (rw stage gave.fact)
     (append-nil old.pending.items ∙ sym (take-append-drop t.count old.pending.items) ∙ ap (λ (l : List ℕ). take t.count old.pending.items ++ l) (sym pending))
     gave.asks gave.says
 

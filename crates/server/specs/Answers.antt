@@ -3,7 +3,7 @@ use Rattle.std.specs.Prelude.{ℕ, ◌<◌, ◌^◌, List, [], ◌∷◌, ◌++�
 use Rattle.std.specs.Fmt.{decimal}
 use Rattle.std.specs.List.{flat_map}
 use Rattle.frames.specs.declared.data_row.DataValue.TheVariants.{Bytes}
-use Rattle.server.specs.declared.desk_fault.DeskFault.{DeskFault}
+use Rattle.server.specs.declared.backend_fault.BackendFault.{BackendFault}
 use Rattle.server.specs.declared.refusal.Refusal.TheVariants.{Asked}
 use Rattle.server.specs.declared.table_name.TableName.{TableName}
 use Rattle.server.specs.Said.{sent_frame, ready, error_and_ready, completion, columns_frame, values_frame, column_of, text_type}
@@ -41,11 +41,11 @@ unfoldable pub mode_shown : List ℕ
 mode_shown = single_column (codes "data_directory_mode") ++ (single_row (codes "0700") ++ (sent_frame (completion (codes "SHOW")) ++ ready))
 
 -- the publications
-unfoldable pub publications_told : Result (List (List ℕ)) DeskFault → List ℕ
+unfoldable pub publications_told : Result (List (List ℕ)) BackendFault → List ℕ
 publications_told (Ok names) = single_column (codes "pubname") ++ (flat_map single_row names ++ end_of_rows (length names))
 publications_told (Err fault) = error_and_ready (Asked fault)
 
 -- the tables
-unfoldable pub tables_told : Result (List TableName) DeskFault → List ℕ
+unfoldable pub tables_told : Result (List TableName) BackendFault → List ℕ
 tables_told (Ok tables) = table_columns ++ (flat_map table_row tables ++ end_of_rows (length tables))
 tables_told (Err fault) = error_and_ready (Asked fault)

@@ -1,20 +1,20 @@
--- What a connection asks of its desk, with the answers.
+-- What a connection asks of its backend, with the answers.
 use Rattle.std.specs.Prelude.{◌≡◌, ℕ, Bool, List, [], ◌∷◌, Result}
 use Rattle.replcmd.specs.declared.setting.StreamOptions.{StreamOptions}
-use Rattle.server.specs.declared.desk_fault.DeskFault.{DeskFault}
+use Rattle.server.specs.declared.backend_fault.BackendFault.{BackendFault}
 use Rattle.server.specs.declared.table_name.TableName.{TableName}
 
 pub data Call : Type 0 where
   End : (end : ℕ) → Call
   System : (systemid : List ℕ) → Call
-  CreateSlot : (slot : List ℕ) → (answer : Result ℕ DeskFault) → Call
-  DropSlot : (slot : List ℕ) → (answer : Result (Unit {0}) DeskFault) → Call
-  StartStream : (slot : List ℕ) → (position : ℕ) → (options : StreamOptions) → (answer : Result (Unit {0}) DeskFault) → Call
-  Publications : (names : List (List ℕ)) → (answer : Result (List (List ℕ)) DeskFault) → Call
-  Tables : (names : List (List ℕ)) → (answer : Result (List TableName) DeskFault) → Call
+  CreateSlot : (slot : List ℕ) → (answer : Result ℕ BackendFault) → Call
+  DropSlot : (slot : List ℕ) → (answer : Result (Unit {0}) BackendFault) → Call
+  StartStream : (slot : List ℕ) → (position : ℕ) → (options : StreamOptions) → (answer : Result (Unit {0}) BackendFault) → Call
+  Publications : (names : List (List ℕ)) → (answer : Result (List (List ℕ)) BackendFault) → Call
+  Tables : (names : List (List ℕ)) → (answer : Result (List TableName) BackendFault) → Call
   Flushed : (position : ℕ) → (ask : Bool) → Call
 
--- The desk was asked these, one after the other.
+-- The backend was asked these, one after the other.
 abbrev pub AreAsked : {D : Type 0} → (D → Call → D → Type 0) → D → List Call → D → Type 0
 AreAsked told old [] new = new ≡ old
 AreAsked {D} told old (call ∷ calls) new = (mid : D) × told old call mid × AreAsked told mid calls new

@@ -1,4 +1,4 @@
--- A conversation: what is said to each text that a client sends, and what is asked of the desk for it.
+-- A conversation: what is said to each text that a client sends, and what is asked of the backend for it.
 use Rattle.std.specs.Prelude.{◌≡◌, ◌≢◌, ℕ, ◌≤◌, length, ◌⊎◌, Bool, true, false, List, [], ◌∷◌, ◌++◌, Result, Ok, Err}
 use Rattle.replcmd.specs.declared.command.Command.{Command}
 use Rattle.replcmd.specs.declared.command.Command.TheVariants.{Identify, Create, Start, Drop}
@@ -8,7 +8,7 @@ use Rattle.replcmd.specs.Grammar.{SpellsCommand}
 use Rattle.replcmd.specs.Commands.{Tells}
 use Rattle.pqformat.specs.Putting.{Extends}
 use Rattle.std.specs.declared.alloc.AllocError.{AllocError}
-use Rattle.server.specs.declared.desk_fault.DeskFault.{DeskFault}
+use Rattle.server.specs.declared.backend_fault.BackendFault.{BackendFault}
 use Rattle.server.specs.declared.refusal.Refusal.{Refusal}
 use Rattle.server.specs.declared.refusal.Refusal.TheVariants as refusals
 use Rattle.server.specs.declared.service.Dialect.{Dialect}
@@ -23,38 +23,38 @@ use Rattle.server.specs.declared.question.Question.{Question}
 use Rattle.server.specs.declared.question.Question.TheVariants.{SearchPath, DirectoryMode, InitialCopy, Publications, Tables, DropWhenFree}
 use Rattle.server.specs.Questions.{SpellsQuestion}
 
--- what was asked of the desk, and what was said, in one step
-pub record Gave {D : Type 0} (told : D → Call → D → Type 0) (Fact : List Call → List ℕ → Type 0) (desk : D) (out : List ℕ) (desk' : D) (out' : List ℕ) : Type 0 where
+-- what was asked of the backend, and what was said, in one step
+pub record Gave {D : Type 0} (told : D → Call → D → Type 0) (Fact : List Call → List ℕ → Type 0) (backend : D) (out : List ℕ) (backend' : D) (out' : List ℕ) : Type 0 where
   pub asked : List Call
   pub text : List ℕ
   pub fact : Fact asked text
-  pub asks : AreAsked told desk asked desk'
+  pub asks : AreAsked told backend asked backend'
   pub says : out' ≡ out ++ text
 
--- A step in which memory ran out: the desk was asked nothing, or all that the step asks.
-pub record Tried {D : Type 0} (told : D → Call → D → Type 0) (Asks : List Call → Type 0) (desk : D) (desk' : D) : Type 0 where
+-- A step in which memory ran out: the backend was asked nothing, or all that the step asks.
+pub record Tried {D : Type 0} (told : D → Call → D → Type 0) (Asks : List Call → Type 0) (backend : D) (backend' : D) : Type 0 where
   pub asked : List Call
   pub fact : (asked ≡ []) ⊎ Asks asked
-  pub asks : AreAsked told desk asked desk'
+  pub asks : AreAsked told backend asked backend'
 
 -- A step with its answer, or one in which memory ran out: what was said before it stands at the front still.
 abbrev pub Answered : {D A : Type 0} → (D → Call → D → Type 0) → Result A AllocError → (A → List Call → List ℕ → Type 0) → D → List ℕ → D → List ℕ → Type 0
-Answered told (Ok a) Fact desk out desk' out' = Gave told (Fact a) desk out desk' out'
-Answered {D} {A} told (Err e) Fact desk out desk' out' = Tried told (λ asked. (a : A) × (text : List ℕ) × Fact a asked text) desk desk' × Extends out out'
+Answered told (Ok a) Fact backend out backend' out' = Gave told (Fact a) backend out backend' out'
+Answered {D} {A} told (Err e) Fact backend out backend' out' = Tried told (λ asked. (a : A) × (text : List ℕ) × Fact a asked text) backend backend' × Extends out out'
 
 -- ---- commands
 
-abbrev pub is_ok : Result (Unit {0}) DeskFault → Bool
+abbrev pub is_ok : Result (Unit {0}) BackendFault → Bool
 is_ok (Ok u) = true
 is_ok (Err fault) = false
 
 -- Each command makes its own calls, each once. One of them may begin a stream.
 abbrev pub Runs : List ℕ → Command → Bool → List Call → List ℕ → Type 0
 Runs database Identify begins asked text = (end : ℕ) × (systemid : List ℕ) × (asked ≡ End end ∷ System systemid ∷ []) × (text ≡ answer_to_identify systemid end database) × (begins ≡ false)
-Runs database (Create slot) begins asked text = (answer : Result ℕ DeskFault) × (asked ≡ CreateSlot slot answer ∷ []) × (text ≡ answer_to_create slot answer) × (begins ≡ false)
-Runs database (Drop slot) begins asked text = (answer : Result (Unit {0}) DeskFault) × (asked ≡ DropSlot slot answer ∷ []) × (text ≡ answer_to_drop slot answer) × (begins ≡ false)
+Runs database (Create slot) begins asked text = (answer : Result ℕ BackendFault) × (asked ≡ CreateSlot slot answer ∷ []) × (text ≡ answer_to_create slot answer) × (begins ≡ false)
+Runs database (Drop slot) begins asked text = (answer : Result (Unit {0}) BackendFault) × (asked ≡ DropSlot slot answer ∷ []) × (text ≡ answer_to_drop slot answer) × (begins ≡ false)
 Runs database (Start slot position options) begins asked text =
-    (answer : Result (Unit {0}) DeskFault) × (asked ≡ StartStream slot position options answer ∷ []) × (text ≡ answer_to_start slot options.publications answer) × (begins ≡ is_ok answer)
+    (answer : Result (Unit {0}) BackendFault) × (asked ≡ StartStream slot position options answer ∷ []) × (text ≡ answer_to_start slot options.publications answer) × (begins ≡ is_ok answer)
 
 -- the slot of a command to make one is no longer than slots' names are
 abbrev pub HasShortSlot : Command → Type 0
@@ -87,9 +87,9 @@ AnswersQuestion SearchPath asked text = (asked ≡ []) × (text ≡ path_set)
 AnswersQuestion DirectoryMode asked text = (asked ≡ []) × (text ≡ mode_shown)
 AnswersQuestion InitialCopy asked text = (asked ≡ []) × (text ≡ error_and_ready refusals.InitialCopy)
 AnswersQuestion (Publications names) asked text =
-    (answer : Result (List (List ℕ)) DeskFault) × (asked ≡ calls.Publications names answer ∷ []) × (text ≡ publications_told answer)
-AnswersQuestion (Tables names) asked text = (answer : Result (List TableName) DeskFault) × (asked ≡ calls.Tables names answer ∷ []) × (text ≡ tables_told answer)
-AnswersQuestion (DropWhenFree slot) asked text = (answer : Result (Unit {0}) DeskFault) × (asked ≡ DropSlot slot answer ∷ []) × (text ≡ answer_to_drop slot answer)
+    (answer : Result (List (List ℕ)) BackendFault) × (asked ≡ calls.Publications names answer ∷ []) × (text ≡ publications_told answer)
+AnswersQuestion (Tables names) asked text = (answer : Result (List TableName) BackendFault) × (asked ≡ calls.Tables names answer ∷ []) × (text ≡ tables_told answer)
+AnswersQuestion (DropWhenFree slot) asked text = (answer : Result (Unit {0}) BackendFault) × (asked ≡ DropSlot slot answer ∷ []) × (text ≡ answer_to_drop slot answer)
 
 -- a text that is a question
 abbrev pub IsAnswered : List ℕ → List Call → List ℕ → Type 0

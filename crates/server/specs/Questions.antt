@@ -7,12 +7,12 @@ use Rattle.server.specs.declared.question.Question.{Question}
 use Rattle.server.specs.declared.question.Question.TheVariants.{SearchPath, DirectoryMode, InitialCopy, Publications, Tables, DropWhenFree}
 use Rattle.server.specs.declared.quoted.TheConstants.{LITERAL_QUOTE, NAME_QUOTE}
 
--- the names of a list behind its first, up to the bracket that closes it
+-- the names of a list after its first, up to the bracket that closes it
 abbrev pub further : List (List ℕ) → List ℕ
 further [] = codes ")"
 further (name ∷ names) = codes ", " ++ (in_quotes LITERAL_QUOTE name ++ further names)
 
--- The text is a list of these names, one at least, from behind its opening bracket on.
+-- The text is a list of these names, one at least, from after its opening bracket on.
 abbrev pub SpellsNames : List ℕ → List (List ℕ) → Type 0
 SpellsNames text [] = ⊥
 SpellsNames text (name ∷ names) = text ≡ in_quotes LITERAL_QUOTE name ++ further names

@@ -8,9 +8,9 @@ use Rattle.replcmd.specs.declared.fault.OptionFault.{OptionFault}
 use Rattle.replcmd.specs.declared.fault.OptionFault.TheVariants as options
 use Rattle.replcmd.specs.declared.fault.Unserved.TheVariants as unserved
 use Rattle.replcmd.specs.Unrecognized.{Unrecognized}
-use Rattle.server.specs.declared.desk_fault.DeskFault.{DeskFault}
-use Rattle.server.specs.declared.desk_fault.StartAhead.{StartAhead}
-use Rattle.server.specs.declared.desk_fault.DeskFault.TheVariants as desks
+use Rattle.server.specs.declared.backend_fault.BackendFault.{BackendFault}
+use Rattle.server.specs.declared.backend_fault.StartAhead.{StartAhead}
+use Rattle.server.specs.declared.backend_fault.BackendFault.TheVariants as backends
 use Rattle.server.specs.declared.refusal.Refusal.{Refusal}
 use Rattle.server.specs.declared.refusal.Refusal.TheVariants.{Violation, Version, NoReplication, InitialCopy, ExtendedQuery, FunctionCall, Command, Question, Asked}
 
@@ -43,27 +43,33 @@ command_text commands.Unsupported = codes "not supported"
 command_text (commands.BadOption fault) = option_text fault
 command_text commands.Memory = codes "out of memory"
 
-abbrev pub desk_code : DeskFault → List ℕ
-desk_code desks.SlotMissing = codes "42704"
-desk_code desks.SlotInUse = codes "55006"
-desk_code desks.SlotExists = codes "42710"
-desk_code desks.NoSlotPlace = codes "53400"
-desk_code desks.UnknownPublication = codes "42704"
-desk_code desks.ListConflict = codes "0A000"
-desk_code desks.NoReader = codes "53400"
-desk_code (desks.StartAhead ahead) = codes "55000"
-desk_code desks.Memory = codes "53200"
+abbrev pub backend_code : BackendFault → List ℕ
+backend_code backends.SlotMissing = codes "42704"
+backend_code backends.SlotInUse = codes "55006"
+backend_code backends.SlotExists = codes "42710"
+backend_code backends.NoSlotPlace = codes "53400"
+backend_code backends.UnknownPublication = codes "42704"
+backend_code backends.ListConflict = codes "0A000"
+backend_code backends.NoReader = codes "53400"
+backend_code (backends.StartAhead ahead) = codes "55000"
+backend_code backends.SlotLost = codes "55000"
+backend_code backends.NotOwner = codes "42501"
+backend_code backends.NotGranted = codes "42501"
+backend_code backends.Memory = codes "53200"
 
-abbrev pub desk_text : DeskFault → List ℕ
-desk_text desks.SlotMissing = codes "slot does not exist"
-desk_text desks.SlotInUse = codes "slot is in use"
-desk_text desks.SlotExists = codes "slot already exists"
-desk_text desks.NoSlotPlace = codes "no slot place is left"
-desk_text desks.UnknownPublication = codes "publication does not exist"
-desk_text desks.ListConflict = codes "different column lists"
-desk_text desks.NoReader = codes "too many senders"
-desk_text (desks.StartAhead ahead) = codes "start is ahead of what the slot has sent"
-desk_text desks.Memory = codes "out of memory"
+abbrev pub backend_text : BackendFault → List ℕ
+backend_text backends.SlotMissing = codes "slot does not exist"
+backend_text backends.SlotInUse = codes "slot is in use"
+backend_text backends.SlotExists = codes "slot already exists"
+backend_text backends.NoSlotPlace = codes "no slot place is left"
+backend_text backends.UnknownPublication = codes "publication does not exist"
+backend_text backends.ListConflict = codes "different column lists"
+backend_text backends.NoReader = codes "too many senders"
+backend_text (backends.StartAhead ahead) = codes "start is ahead of what the slot has sent"
+backend_text backends.SlotLost = codes "can no longer get changes from replication slot"
+backend_text backends.NotOwner = codes "must be owner of replication slot"
+backend_text backends.NotGranted = codes "permission denied for publication"
+backend_text backends.Memory = codes "out of memory"
 
 abbrev pub refusal_code : Refusal → List ℕ
 refusal_code Violation = codes "08P01"
@@ -74,7 +80,7 @@ refusal_code ExtendedQuery = codes "08P01"
 refusal_code FunctionCall = codes "08P01"
 refusal_code (Command fault) = command_code fault
 refusal_code (Question fault) = command_code fault
-refusal_code (Asked fault) = desk_code fault
+refusal_code (Asked fault) = backend_code fault
 
 abbrev pub refusal_text : Refusal → List ℕ
 refusal_text Violation = codes "protocol violation"
@@ -85,7 +91,7 @@ refusal_text ExtendedQuery = codes "extended query protocol not supported: only 
 refusal_text FunctionCall = codes "function calls not supported: only simple queries are served"
 refusal_text (Command fault) = command_text fault
 refusal_text (Question fault) = codes "not answered without --answer-postgresql"
-refusal_text (Asked fault) = desk_text fault
+refusal_text (Asked fault) = backend_text fault
 
 -- an option that isn't known is named; a name that is too long for one isn't repeated
 abbrev pub unrecognized_text : Option (List ℕ) → List ℕ
@@ -105,19 +111,29 @@ named_slot slot state = codes "replication slot \"" ++ slot ++ codes "\" " ++ st
 abbrev pub ahead_text : StartAhead → List ℕ
 ahead_text ahead = codes "start " ++ position_text ahead.start ++ codes " is ahead of " ++ position_text ahead.reached ++ codes ", all that its slot has sent: the publisher began anew"
 
+-- a slot that was given up
+abbrev pub lost_text : List ℕ → List ℕ
+lost_text slot = codes "can no longer get changes from replication slot \"" ++ slot ++ codes "\""
+
+-- a slot that another user made
+abbrev pub owner_text : List ℕ → List ℕ
+owner_text slot = codes "must be owner of replication slot \"" ++ slot ++ codes "\""
+
 abbrev pub named_publication : List ℕ → List ℕ
 named_publication name = codes "publication \"" ++ name ++ codes "\" does not exist"
 
-abbrev pub state_text : DeskFault → List ℕ → List ℕ
-state_text desks.SlotMissing slot = named_slot slot (codes "does not exist")
-state_text desks.SlotInUse slot = named_slot slot (codes "is active")
-state_text desks.SlotExists slot = named_slot slot (codes "already exists")
-state_text (desks.StartAhead ahead) slot = ahead_text ahead
-state_text fault slot = desk_text fault
+abbrev pub state_text : BackendFault → List ℕ → List ℕ
+state_text backends.SlotMissing slot = named_slot slot (codes "does not exist")
+state_text backends.SlotInUse slot = named_slot slot (codes "is active")
+state_text backends.SlotExists slot = named_slot slot (codes "already exists")
+state_text (backends.StartAhead ahead) slot = ahead_text ahead
+state_text backends.SlotLost slot = lost_text slot
+state_text backends.NotOwner slot = owner_text slot
+state_text fault slot = backend_text fault
 
 -- the text of a fault of this slot; a name that is too long for one isn't repeated
-abbrev pub slot_text : DeskFault → List ℕ → List ℕ
-slot_text fault slot = if nat_le (length slot) MOST_NAME_BYTES then state_text fault slot else desk_text fault
+abbrev pub slot_text : BackendFault → List ℕ → List ℕ
+slot_text fault slot = if nat_le (length slot) MOST_NAME_BYTES then state_text fault slot else backend_text fault
 
 abbrev pub only_name : List (List ℕ) → Option (List ℕ)
 only_name [] = None
@@ -126,10 +142,10 @@ only_name (name ∷ another ∷ names) = None
 
 -- a publication that isn't there is named where no other was asked for
 abbrev pub publication_text : Option (List ℕ) → List ℕ
-publication_text None = desk_text desks.UnknownPublication
-publication_text (Some name) = if nat_le (length name) MOST_NAME_BYTES then named_publication name else desk_text desks.UnknownPublication
+publication_text None = backend_text backends.UnknownPublication
+publication_text (Some name) = if nat_le (length name) MOST_NAME_BYTES then named_publication name else backend_text backends.UnknownPublication
 
 -- of a stream from this slot and of these publications
-abbrev pub start_text : DeskFault → List ℕ → List (List ℕ) → List ℕ
-start_text desks.UnknownPublication slot names = publication_text (only_name names)
+abbrev pub start_text : BackendFault → List ℕ → List (List ℕ) → List ℕ
+start_text backends.UnknownPublication slot names = publication_text (only_name names)
 start_text fault slot names = slot_text fault slot

@@ -11,13 +11,13 @@ use Rattle.frames.specs.Frame.{frame}
 use Rattle.frames.specs.Back.{back_kind, back_body}
 use Rattle.replcmd.specs.Position.{position_text}
 use Rattle.server.specs.declared.say.TheConstants.{TEXT_OID, INT4_OID, INT4_SIZE, ANY_SIZE, NO_MODIFIER, NO_ATTRIBUTE}
-use Rattle.server.specs.declared.desk_fault.DeskFault.{DeskFault}
+use Rattle.server.specs.declared.backend_fault.BackendFault.{BackendFault}
 use Rattle.server.specs.declared.refusal.Refusal.{Refusal}
 use Rattle.server.specs.declared.service.Dialect.{Dialect}
 use Rattle.server.specs.declared.service.Dialect.TheVariants.{Commands, Questions}
 use Rattle.server.specs.declared.service.Service.{Service}
 use Rattle.server.specs.declared.refusal.Refusal.TheVariants.{NoReplication}
-use Rattle.server.specs.Refusals.{refusal_code, refusal_text, desk_code, slot_text, start_text}
+use Rattle.server.specs.Refusals.{refusal_code, refusal_text, backend_code, slot_text, start_text}
 
 -- a frame as it is sent
 unfoldable pub sent_frame : Back → List ℕ
@@ -46,12 +46,12 @@ unfoldable pub refused_with : Refusal → List ℕ → List ℕ
 refused_with refusal text = sent_frame (error_frame (refusal_code refusal) text) ++ ready
 
 -- what was asked of this slot is refused: the session goes on
-unfoldable pub slot_refused : DeskFault → List ℕ → List ℕ
-slot_refused fault slot = sent_frame (error_frame (desk_code fault) (slot_text fault slot)) ++ ready
+unfoldable pub slot_refused : BackendFault → List ℕ → List ℕ
+slot_refused fault slot = sent_frame (error_frame (backend_code fault) (slot_text fault slot)) ++ ready
 
 -- and so is a stream from this slot and of these publications
-unfoldable pub start_refused : DeskFault → List ℕ → List (List ℕ) → List ℕ
-start_refused fault slot names = sent_frame (error_frame (desk_code fault) (start_text fault slot names)) ++ ready
+unfoldable pub start_refused : BackendFault → List ℕ → List (List ℕ) → List ℕ
+start_refused fault slot names = sent_frame (error_frame (backend_code fault) (start_text fault slot names)) ++ ready
 
 -- ---- the beginning of a session
 
@@ -128,19 +128,19 @@ slot_values slot position = values_frame (Bytes slot ∷ Bytes (position_text po
 unfoldable pub slot_made : List ℕ → ℕ → List ℕ
 slot_made slot position = sent_frame slot_columns ++ (sent_frame (slot_values slot position) ++ (sent_frame (completion (codes "CREATE_REPLICATION_SLOT")) ++ ready))
 
-unfoldable pub answer_to_create : List ℕ → Result ℕ DeskFault → List ℕ
+unfoldable pub answer_to_create : List ℕ → Result ℕ BackendFault → List ℕ
 answer_to_create slot (Ok position) = slot_made slot position
 answer_to_create slot (Err fault) = slot_refused fault slot
 
-unfoldable pub answer_to_drop : List ℕ → Result (Unit {0}) DeskFault → List ℕ
+unfoldable pub answer_to_drop : List ℕ → Result (Unit {0}) BackendFault → List ℕ
 answer_to_drop slot (Ok u) = sent_frame (completion (codes "DROP_REPLICATION_SLOT")) ++ ready
 answer_to_drop slot (Err fault) = slot_refused fault slot
 
 -- START_REPLICATION: the stream begins
-unfoldable pub answer_to_start : List ℕ → List (List ℕ) → Result (Unit {0}) DeskFault → List ℕ
+unfoldable pub answer_to_start : List ℕ → List (List ℕ) → Result (Unit {0}) BackendFault → List ℕ
 answer_to_start slot names (Ok u) = sent_frame (CopyBothResponse (record { format = 0; formats = [] }))
 answer_to_start slot names (Err fault) = start_refused fault slot names
 
--- the end of a stream, behind all of it: the command that began it is complete
+-- the end of a stream, after all of it: the command that began it is complete
 unfoldable pub end_of_stream : List ℕ
 end_of_stream = sent_frame CopyDone ++ (sent_frame (completion (codes "START_REPLICATION")) ++ ready)

@@ -30,22 +30,22 @@ abbrev pub IsAny : Turn → Type 0
 IsAny t = Unit {0}
 
 -- The turns between two connections, each of this kind: they spell what was left and what came, but for what is left now.
-pub record Went {D : Type 0} (told : D → Call → D → Type 0) (Kind : Turn → Type 0) (input : List ℕ) (old : Connection) (desk : D) (out : List ℕ) (new : Connection) (desk' : D) (out' : List ℕ) : Type 0 where
+pub record Went {D : Type 0} (told : D → Call → D → Type 0) (Kind : Turn → Type 0) (input : List ℕ) (old : Connection) (backend : D) (out : List ℕ) (new : Connection) (backend' : D) (out' : List ℕ) : Type 0 where
   pub turns : List Turn
   pub kind : AllByRecursion Kind turns
   pub same : new.service ≡ old.service
   pub follow : AreTurns old.service old.stage turns new.stage
   pub spell : old.pending.items ++ input ≡ flat_map (λ t. t.text) turns ++ new.pending.items
-  pub ask : AreAsked told desk (flat_map (λ t. t.asked) turns) desk'
+  pub ask : AreAsked told backend (flat_map (λ t. t.asked) turns) backend'
   pub say : out' ≡ out ++ flat_map (λ t. t.said) turns
 
 -- A turn at the front of what is pending asks this.
 abbrev pub Asks : Service → Stage → List ℕ → List Call → Type 0
 Asks service stage pending asked = (t : Turn) × (next : Stage) × (rest : List ℕ) × IsTurn service stage t next × (t.asked ≡ asked) × (pending ≡ t.text ++ rest)
 
--- A call in which memory ran out. The turns before that are whole; of the turn that failed nothing was said, and the desk
+-- A call in which memory ran out. The turns before that are whole; of the turn that failed nothing was said, and the backend
 -- was asked nothing, or all that the turn asks.
-pub record Broke {D : Type 0} (told : D → Call → D → Type 0) (input : List ℕ) (old : Connection) (desk : D) (out : List ℕ) (desk' : D) (out' : List ℕ) : Type 0 where
+pub record Broke {D : Type 0} (told : D → Call → D → Type 0) (input : List ℕ) (old : Connection) (backend : D) (out : List ℕ) (backend' : D) (out' : List ℕ) : Type 0 where
   pub turns : List Turn
   pub stage : Stage
   pub rest : List ℕ
@@ -53,9 +53,9 @@ pub record Broke {D : Type 0} (told : D → Call → D → Type 0) (input : List
   pub kind : AllByRecursion HasText turns
   pub follow : AreTurns old.service old.stage turns stage
   pub spell : old.pending.items ++ input ≡ flat_map (λ t. t.text) turns ++ rest
-  pub ask : AreAsked told desk (flat_map (λ t. t.asked) turns) between
+  pub ask : AreAsked told backend (flat_map (λ t. t.asked) turns) between
   pub say : out' ≡ out ++ flat_map (λ t. t.said) turns
-  pub failed : Tried told (Asks old.service stage rest) between desk'
+  pub failed : Tried told (Asks old.service stage rest) between backend'
 
 -- The end of a stream between two connections: the one turn without a text. What came before it is kept.
 pub record Ended (old : Connection) (out : List ℕ) (new : Connection) (out' : List ℕ) : Type 0 where
@@ -80,8 +80,8 @@ IfStopping Closed Then Else = Else
 
 -- What comes is taken. That all has been sent ends a stream that stops, and is passed over else.
 abbrev pub Happened : {D : Type 0} → (D → Call → D → Type 0) → Event → Connection → D → List ℕ → Connection → D → List ℕ → Type 0
-Happened told (Came bytes) old desk out new desk' out' = Went told HasText bytes.items old desk out new desk' out' × Waits new.stage new.pending.items
-Happened told AllSent old desk out new desk' out' = (desk' ≡ desk) × IfStopping old.stage (Ended old out new out') ((new ≡ old) × (out' ≡ out))
+Happened told (Came bytes) old backend out new backend' out' = Went told HasText bytes.items old backend out new backend' out' × Waits new.stage new.pending.items
+Happened told AllSent old backend out new backend' out' = (backend' ≡ backend) × IfStopping old.stage (Ended old out new out') ((new ≡ old) × (out' ≡ out))
 
 -- until memory runs out; what comes to a closed connection is no exception
 abbrev pub UnlessMemory : {A : Type 0} → Result A ConnFault → Type 0 → Type 0
@@ -103,7 +103,7 @@ phase_of Closed = phases.Closed
 abbrev pub OneTurn : Service → Stage → List ℕ → Stage → List Call → List ℕ → Type 0
 OneTurn service old text new asked said = IsTurn service old (record { text = text; asked = asked; said = said }) new
 
--- what was said, where nothing is asked of the desk
+-- what was said, where nothing is asked of the backend
 pub record Said (Fact : List Call → List ℕ → Type 0) (out : List ℕ) (out' : List ℕ) : Type 0 where
   pub text : List ℕ
   pub fact : Fact [] text
@@ -117,8 +117,8 @@ IsTurned service stage pending t Same Step =
 
 -- Either that, or memory ran out in the turn.
 abbrev pub TakesTurn : {D : Type 0} → (D → Call → D → Type 0) → Service → Stage → List ℕ → Result Turned AllocError → D → List ℕ → D → List ℕ → Type 0
-TakesTurn told service stage pending (Ok t) desk out desk' out' = IsTurned service stage pending t ((desk' ≡ desk) × (out' ≡ out)) (λ fact. Gave told fact desk out desk' out')
-TakesTurn told service stage pending (Err e) desk out desk' out' = Tried told (Asks service stage pending) desk desk' × Extends out out'
+TakesTurn told service stage pending (Ok t) backend out backend' out' = IsTurned service stage pending t ((backend' ≡ backend) × (out' ≡ out)) (λ fact. Gave told fact backend out backend' out')
+TakesTurn told service stage pending (Err e) backend out backend' out' = Tried told (Asks service stage pending) backend backend' × Extends out out'
 
 -- ---- what is pending
 

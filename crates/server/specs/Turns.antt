@@ -1,4 +1,4 @@
--- A conversation as a list of turns: each is a text of the client, what was asked of the desk for it, and what was said
+-- A conversation as a list of turns: each is a text of the client, what was asked of the backend for it, and what was said
 -- to it (PostgreSQL 15, 55.2.1 to 55.2.3, 55.2.6 and 55.4).
 use Rattle.std.specs.Prelude.{◌≡◌, ℕ, ◌⊎◌, List, [], ◌∷◌, ◌++◌, Option, Some, None, Ok, Err, Bool, true, false, codes, if◌then◌else◌}
 use Rattle.std.specs.List.{flat_map}
@@ -32,7 +32,7 @@ pub record Turn : Type 0 where
   pub asked : List Call
   pub said : List ℕ
 
--- nothing is asked of the desk, this is said, and the connection is then at this stage
+-- nothing is asked of the backend, this is said, and the connection is then at this stage
 abbrev pub Says : List ℕ → Stage → List Call → List ℕ → Stage → Type 0
 Says text stage asked said next = (asked ≡ []) × (said ≡ text) × (next ≡ stage)
 
@@ -94,7 +94,7 @@ Skips database (CopyFail fail) = Says [] (Skipping database)
 
 -- ---- in a stream
 
--- The desk is told of a status: how far the client has flushed, and whether it asks for an answer. This is one call.
+-- The backend is told of a status: how far the client has flushed, and whether it asks for an answer. This is one call.
 pub record Passes (bytes : List ℕ) (asked : List Call) (said : List ℕ) : Type 0 where
   pub status : Status
   pub spells : SpellsStatus bytes status
@@ -162,11 +162,11 @@ Waits (Streaming database) rest = framed_front rest ≡ Ok None
 Waits (Stopping database) rest = Unit {0}
 Waits Closed rest = rest ≡ []
 
--- a stream has just ended: what came behind its CopyDone counts from the next call on
+-- a stream has just ended: what came after its CopyDone counts from the next call on
 abbrev pub HaveEnded : List Turn → Type 0
 HaveEnded turns = (before : List Turn) × (turns ≡ before ++ end_turn ∷ [])
 
--- What a connection of this service hears, what it asks of its desk and what it says are one conversation: from its
+-- What a connection of this service hears, what it asks of its backend and what it says are one conversation: from its
 -- startup on, turn by turn, the turns spell the input but for a rest that is waited on. The bytes of streams are apart.
 pub record IsConversation (service : Service) (input : List ℕ) (asked : List Call) (said : List ℕ) : Type 0 where
   pub turns : List Turn

@@ -8,7 +8,7 @@ ghost use Rattle.server.specs.Turns.{IsTurn, Waits, end_turn};
 ghost use Rattle.server.specs.declared.service.Dialect.TheVariants.{Commands};
 ghost use Rattle.server.specs.declared.stage.Stage.TheVariants.{Fresh, Closed};
 
-use crate::desk::Desk;
+use crate::backend::Backend;
 use crate::fault::ConnFault;
 use crate::say::say_ended;
 use crate::service::{Dialect, Service};
@@ -36,7 +36,7 @@ pub enum Phase {
 
 /// The server's side of one connection, without its socket.
 ///
-/// `take` is given the bytes as they come, in any cuts, and a desk; it adds the answers to a buffer. Who wants to do something
+/// `take` is given the bytes as they come, in any cuts, and a backend; it adds the answers to a buffer. Who wants to do something
 /// between two answers gives the bytes to `push`, and has them answered one by one by `answer`.
 #[derive(Drop)]
 pub struct Connection {
@@ -112,19 +112,23 @@ impl Connection {
     ///
     /// H1 is want of memory, and it closes the connection without a word: what stood in `out` stands there, and no more. H2: it
     /// is closed, and what has come is passed over.
-    pub fn answer<D: Desk>(&mut self, desk: &mut D, out: &mut BytesMut) -> Result<bool, ConnFault>
+    pub fn answer<D: Backend>(
+        &mut self,
+        backend: &mut D,
+        out: &mut BytesMut,
+    ) -> Result<bool, ConnFault>
         ensures went { UnlessMemory result
-            (Went D.told HasText [] self.old desk.old out.old.items self.new desk.new
+            (Went D.told HasText [] self.old backend.old out.old.items self.new backend.new
             out.new.items) }
         ensures less { IfOk result
             (λ more. more ≡ true → length self.new.pending.items < length self.old.pending.items) }
         ensures waits { IfOk result
             (λ more. more ≡ false → Waits self.new.stage self.new.pending.items) }
         ensures unsaid { result ≡ Err ConnFault.Memory → out.new.items ≡ out.old.items }
-        // Of the desk nothing is asked then, or all that the turn asks.
+        // Of the backend nothing is asked then, or all that the turn asks.
         ensures asked { result ≡ Err ConnFault.Memory →
-            Tried D.told (Asks self.old.service self.old.stage self.old.pending.items) desk.old
-            desk.new }
+            Tried D.told (Asks self.old.service self.old.stage self.old.pending.items) backend.old
+            backend.new }
         ensures closed { OnErr result (self.new.stage ≡ Closed) }
         ensures ended { (result ≡ Err ConnFault.Closed) ↔ (self.old.stage ≡ Closed) }
     {
@@ -132,7 +136,7 @@ impl Connection {
             self.pending.clear();
             return Err(ConnFault::Closed);
         }
-        let Ok(more) = self.step(desk, out) else {
+        let Ok(more) = self.step(backend, out) else {
             self.close();
             return Err(ConnFault::Memory);
         };
@@ -140,9 +144,9 @@ impl Connection {
     }
 
     /// Takes one turn; false: what is pending has to wait for more. Refused, it says nothing.
-    fn step<D: Desk>(&mut self, desk: &mut D, out: &mut BytesMut) -> Result<bool, AllocError>
+    fn step<D: Backend>(&mut self, backend: &mut D, out: &mut BytesMut) -> Result<bool, AllocError>
         ensures went { OnOk result
-            (Went D.told HasText [] self.old desk.old out.old.items self.new desk.new
+            (Went D.told HasText [] self.old backend.old out.old.items self.new backend.new
             out.new.items) }
         ensures less { IfOk result
             (λ more. more ≡ true → length self.new.pending.items < length self.old.pending.items) }
@@ -150,8 +154,8 @@ impl Connection {
             (λ more. more ≡ false → Waits self.new.stage self.new.pending.items) }
         ensures unsaid { OnErr result (out.new.items ≡ out.old.items) }
         ensures asked { OnErr result
-            (Tried D.told (Asks self.old.service self.old.stage self.old.pending.items) desk.old
-            desk.new) }
+            (Tried D.told (Asks self.old.service self.old.stage self.old.pending.items) backend.old
+            backend.new) }
     {
         let start = out.len();
         let stage = mem::replace(&mut self.stage, Stage::Closed);
@@ -160,7 +164,7 @@ impl Connection {
             self.service,
             stage,
             self.pending.as_slice(),
-            desk,
+            backend,
             out,
         );
         let Ok(Turned { stage, count }) = turned else {
@@ -173,21 +177,21 @@ impl Connection {
     }
 
     /// Takes all turns that the pending bytes and these make.
-    fn hear<D: Desk>(
+    fn hear<D: Backend>(
         &mut self,
         bytes: &[u8],
-        desk: &mut D,
+        backend: &mut D,
         out: &mut BytesMut,
     ) -> Result<(), AllocError>
         ensures went { OnOk result
-            (Went D.told HasText bytes.now self.old desk.old out.old.items self.new desk.new
+            (Went D.told HasText bytes.now self.old backend.old out.old.items self.new backend.new
             out.new.items) }
         ensures waits { OnOk result (Waits self.new.stage self.new.pending.items) }
         ensures broke { OnErr result
-            (Broke D.told bytes.now self.old desk.old out.old.items desk.new out.new.items) }
+            (Broke D.told bytes.now self.old backend.old out.old.items backend.new out.new.items) }
     {
         self.pending.extend_from_slice(bytes)?;
-        while self.step(desk, out)? {}
+        while self.step(backend, out)? {}
         Ok(())
     }
 
@@ -208,21 +212,21 @@ impl Connection {
     /// H1 is want of memory, and it closes the connection without a word: `out` has the answers of the turns before, each
     /// whole. What comes to a closed connection is passed over: in the call that closed it silently, in later ones by H2.
     ///
-    /// The client of a stream ends it by CopyDone. What comes behind that is kept, and answered by the first call after
+    /// The client of a stream ends it by CopyDone. What comes after that is kept, and answered by the first call after
     /// `stopped`.
-    pub fn take<D: Desk>(
+    pub fn take<D: Backend>(
         &mut self,
         bytes: &[u8],
-        desk: &mut D,
+        backend: &mut D,
         out: &mut BytesMut,
     ) -> Result<Phase, ConnFault>
         // The call carries the conversation on.
         ensures went { UnlessMemory result
-            (Went D.told HasText bytes.now self.old desk.old out.old.items self.new desk.new
+            (Went D.told HasText bytes.now self.old backend.old out.old.items self.new backend.new
             out.new.items) }
         // As far as memory goes, turn by turn.
         ensures broke { result ≡ Err ConnFault.Memory →
-            Broke D.told bytes.now self.old desk.old out.old.items desk.new out.new.items }
+            Broke D.told bytes.now self.old backend.old out.old.items backend.new out.new.items }
         // All that can be answered is.
         ensures waits { UnlessMemory result (Waits self.new.stage self.new.pending.items) }
         ensures phase { IfOk result (λ p. p ≡ phase_of self.new.stage) }
@@ -233,7 +237,7 @@ impl Connection {
             self.pending.clear();
             return Err(ConnFault::Closed);
         }
-        if self.hear(bytes, desk, out).is_err() {
+        if self.hear(bytes, backend, out).is_err() {
             self.close();
             return Err(ConnFault::Memory);
         }
@@ -241,7 +245,7 @@ impl Connection {
     }
 
     /// Ends the stream that stops: all of it has been said. The connection waits for a query again, and the next `take`,
-    /// which may bring no bytes, answers what was kept behind the CopyDone.
+    /// which may bring no bytes, answers what was kept after the CopyDone.
     ///
     /// H1 is want of memory, and it closes the connection without a word: what stood in `out` stands there, and no more.
     pub fn stopped(&mut self, out: &mut BytesMut) -> Result<Phase, ConnFault>

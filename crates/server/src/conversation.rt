@@ -6,8 +6,8 @@ ghost use Rattle.server.specs.Conversation.{Gave};
 ghost use Rattle.server.specs.Segment.{Happened, UnlessMemory, bytes_heard};
 ghost use Rattle.server.specs.Turns.{IsConversation};
 
+use crate::backend::Backend;
 use crate::connection::{Connection, Phase};
-use crate::desk::Desk;
 use crate::fault::ConnFault;
 use crate::service::Service;
 use bytes::BytesMut;
@@ -24,19 +24,19 @@ pub enum Event {
 
 /// Lets this happen on the connection. That all has been sent is passed over where no stream stops.
 #[tactic(auto, using(crate::proofs::Segments::if_stopping, crate::proofs::Segments::unless_stopping))]
-fn happen<D: Desk>(
+fn happen<D: Backend>(
     connection: &mut Connection,
     event: &Event,
-    desk: &mut D,
+    backend: &mut D,
     out: &mut BytesMut,
 ) -> Result<(), ConnFault>
     ensures { UnlessMemory result
-        (Happened D.told event.now connection.old desk.old out.old.items connection.new desk.new
+        (Happened D.told event.now connection.old backend.old out.old.items connection.new backend.new
         out.new.items) }
 {
     match event {
         Event::Came(bytes) => {
-            connection.take(bytes.as_slice(), desk, out)?;
+            connection.take(bytes.as_slice(), backend, out)?;
         }
         Event::AllSent => {
             if connection.phase() == Phase::Stopping {
@@ -59,21 +59,21 @@ fn unless_memory(answer: Result<(), ConnFault>) -> Result<(), AllocError>
 
 /// Holds a whole conversation on a connection that is served so: what the client sends comes in any cuts, and streams that
 /// stop end in between.
-pub fn converse<D: Desk>(
+pub fn converse<D: Backend>(
     alloc: Global,
     service: Service,
     events: &[Event],
-    desk: &mut D,
+    backend: &mut D,
     out: &mut BytesMut,
 ) -> Result<(), AllocError>
     ensures { OnOk result
         (Gave D.told
-        (IsConversation service (flat_map bytes_heard events.now)) desk.old out.old.items
-        desk.new out.new.items) }
+        (IsConversation service (flat_map bytes_heard events.now)) backend.old out.old.items
+        backend.new out.new.items) }
 {
     let mut connection = Connection::served(alloc, service);
     for event in events {
-        let happened = happen(&mut connection, event, desk, out);
+        let happened = happen(&mut connection, event, backend, out);
         if let Err(fault) = unless_memory(happened) {
             drop(connection);
             return Err(fault);

@@ -1,13 +1,20 @@
-//! The server's side of a connection, as a core of its own: bytes in, bytes out, and a desk that it asks; with the questions that
+//! The server's side of a connection, as a core of its own: bytes in, bytes out, and a backend that it asks; with the questions that
 //! PostgreSQL's own clients ask beside the commands, and what a server says. No socket, no thread.
+//!
+//! `Connection` takes bytes and adds answers, over a `Backend` that it asks. `stage.rt` says what a connection waits for;
+//! `opening.rt`, `session.rt` and `streaming.rt` take the turns of the three stages; `query.rt` runs commands, `question.rt`
+//! knows the questions of clients; `refusal.rt` has each refusal's code and text.
+//!
+//! Read `connection.rt`, `turn.rt`, `session.rt`, `query.rt`. Above, one contract is used: whatever comes in whatever cuts, what
+//! was asked of the backend and what was said is one conversation (specs: `IsConversation`).
 #![tactic(auto)]
 
 mod answer_rows;
+mod backend;
+mod backend_fault;
 mod connection;
 mod conversation;
 mod database;
-mod desk;
-mod desk_fault;
 mod extended;
 mod fault;
 mod list;
@@ -30,10 +37,10 @@ mod streaming;
 mod table_name;
 mod turn;
 
+pub use backend::Backend;
+pub use backend_fault::{BackendFault, StartAhead};
 pub use connection::{Connection, Phase};
 pub use conversation::{Event, converse};
-pub use desk::Desk;
-pub use desk_fault::{DeskFault, StartAhead};
 pub use fault::ConnFault;
 pub use question::{Question, no_text_asks_two_questions, question_of};
 pub use refusal::Refusal;

@@ -3,10 +3,10 @@
 ghost use Rattle.std.specs.Prelude.{◌≡◌, ◌≤◌, length, option_copied, string_bytes, IfOk};
 ghost use Rattle.pqformat.specs.Putting.{Puts};
 ghost use Rattle.replcmd.specs.Position.{position_text};
-ghost use Rattle.server.specs.Refusals.{ahead_text, desk_text, named_publication, named_slot, only_name, publication_text, slot_text, start_text};
+ghost use Rattle.server.specs.Refusals.{ahead_text, backend_text, lost_text, named_publication, named_slot, only_name, owner_text, publication_text, slot_text, start_text};
 ghost use Rattle.server.specs.Said.{slot_refused, start_refused};
 
-use crate::desk_fault::{DeskFault, StartAhead};
+use crate::backend_fault::{BackendFault, StartAhead};
 use crate::refusal::Refusal;
 use crate::say::{say_error, say_ready};
 use bytes::BytesMut;
@@ -22,7 +22,7 @@ pub(crate) const MOST_NAME_BYTES: usize = 63;
 pub(crate) fn say_slot_refused(
     alloc: Global,
     out: &mut BytesMut,
-    fault: DeskFault,
+    fault: BackendFault,
     slot: &str,
 ) -> Result<(), AllocError>
     ensures { Puts result out.old.items out.new.items (slot_refused fault slot.now) }
@@ -38,7 +38,7 @@ pub(crate) fn say_slot_refused(
 pub(crate) fn say_start_refused(
     alloc: Global,
     out: &mut BytesMut,
-    fault: DeskFault,
+    fault: BackendFault,
     slot: &str,
     publications: &[Text],
 ) -> Result<(), AllocError>
@@ -53,7 +53,7 @@ pub(crate) fn say_start_refused(
 
 fn start_text(
     alloc: Global,
-    fault: DeskFault,
+    fault: BackendFault,
     slot: &str,
     publications: &[Text],
 ) -> Result<String, AllocError>
@@ -62,7 +62,7 @@ fn start_text(
     ensures short { IfOk result (λ t. length (string_bytes t) ≤ 120) }
 {
     match fault {
-        DeskFault::UnknownPublication => publication_text(alloc, only_name(publications)),
+        BackendFault::UnknownPublication => publication_text(alloc, only_name(publications)),
         _ => slot_text(alloc, fault, slot),
     }
 }
@@ -83,7 +83,7 @@ fn publication_text(alloc: Global, name: Option<&str>) -> Result<String, AllocEr
 {
     match name {
         Some(name) if name.len() <= MOST_NAME_BYTES => named_publication(alloc, name),
-        _ => plain(alloc, DeskFault::UnknownPublication),
+        _ => plain(alloc, BackendFault::UnknownPublication),
     }
 }
 
@@ -97,28 +97,32 @@ fn named_publication(alloc: Global, name: &str) -> Result<String, AllocError>
 }
 
 /// The text of the fault. A name that no slot may have, since it is too long, isn't repeated.
-fn slot_text(alloc: Global, fault: DeskFault, slot: &str) -> Result<String, AllocError>
+fn slot_text(alloc: Global, fault: BackendFault, slot: &str) -> Result<String, AllocError>
     ensures text { IfOk result (λ t. string_bytes t ≡ slot_text fault slot.now) }
     ensures short { IfOk result (λ t. length (string_bytes t) ≤ 120) }
 {
     match fault {
-        DeskFault::SlotMissing if slot.len() <= MOST_NAME_BYTES => {
+        BackendFault::SlotMissing if slot.len() <= MOST_NAME_BYTES => {
             named_slot(alloc, slot, "does not exist")
         }
-        DeskFault::SlotInUse if slot.len() <= MOST_NAME_BYTES => {
+        BackendFault::SlotInUse if slot.len() <= MOST_NAME_BYTES => {
             named_slot(alloc, slot, "is active")
         }
-        DeskFault::SlotExists if slot.len() <= MOST_NAME_BYTES => {
+        BackendFault::SlotExists if slot.len() <= MOST_NAME_BYTES => {
             named_slot(alloc, slot, "already exists")
         }
-        DeskFault::StartAhead(ahead) if slot.len() <= MOST_NAME_BYTES => start_ahead(alloc, ahead),
+        BackendFault::StartAhead(ahead) if slot.len() <= MOST_NAME_BYTES => start_ahead(
+            alloc, ahead,
+        ),
+        BackendFault::SlotLost if slot.len() <= MOST_NAME_BYTES => lost_slot(alloc, slot),
+        BackendFault::NotOwner if slot.len() <= MOST_NAME_BYTES => others_slot(alloc, slot),
         _ => plain(alloc, fault),
     }
 }
 
 /// The text without the name.
-fn plain(alloc: Global, fault: DeskFault) -> Result<String, AllocError>
-    ensures text { IfOk result (λ t. string_bytes t ≡ desk_text fault) }
+fn plain(alloc: Global, fault: BackendFault) -> Result<String, AllocError>
+    ensures text { IfOk result (λ t. string_bytes t ≡ backend_text fault) }
     ensures short { IfOk result (λ t. length (string_bytes t) ≤ 80) }
 {
     let (_code, text) = Refusal::Asked(fault).told();
@@ -136,6 +140,24 @@ fn start_ahead(alloc: Global, ahead: StartAhead) -> Result<String, AllocError>
     text.push_str(" is ahead of ")?;
     text.push_str(reached.as_str())?;
     text.push_str(", all that its slot has sent: the publisher began anew")?;
+    Ok(text)
+}
+
+fn lost_slot(alloc: Global, slot: &str) -> Result<String, AllocError>
+    ensures { IfOk result (λ t. string_bytes t ≡ lost_text slot.now) }
+{
+    let mut text = String::from_str(alloc, "can no longer get changes from replication slot \"")?;
+    text.push_str(slot)?;
+    text.push_str("\"")?;
+    Ok(text)
+}
+
+fn others_slot(alloc: Global, slot: &str) -> Result<String, AllocError>
+    ensures { IfOk result (λ t. string_bytes t ≡ owner_text slot.now) }
+{
+    let mut text = String::from_str(alloc, "must be owner of replication slot \"")?;
+    text.push_str(slot)?;
+    text.push_str("\"")?;
     Ok(text)
 }
 

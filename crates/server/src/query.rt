@@ -1,12 +1,12 @@
-//! Queries: the command that a text spells, what it asks of the desk, and its answer.
+//! Queries: the command that a text spells, what it asks of the backend, and its answer.
 
 ghost use Rattle.std.specs.Prelude.{◌≡◌, ◌≤◌, length, false};
 ghost use Rattle.server.specs.Conversation.{Answered, Runs, Replies, HasShortSlot, is_ok, why_of};
 ghost use Rattle.replcmd.specs.declared.command.Command.TheVariants.{Identify, Create, Start, Drop};
 
+use crate::backend::Backend;
+use crate::backend_fault::BackendFault;
 use crate::database::Database;
-use crate::desk::Desk;
-use crate::desk_fault::DeskFault;
 use crate::refusal::Refusal;
 use crate::refused_query::{refusal_text, say_refused_with};
 use crate::say::{say_created, say_dropped, say_identified};
@@ -16,63 +16,63 @@ use pqformat::Text;
 use replcmd::{CmdFault, Command, StreamOptions, parse_command};
 use std::alloc::{AllocError, Global};
 
-fn identify<D: Desk>(
+fn identify<D: Backend>(
     alloc: Global,
     database: &Database,
-    desk: &mut D,
+    backend: &mut D,
     out: &mut BytesMut,
 ) -> Result<(), AllocError>
-    ensures { Answered D.told result (λ _. Runs database.now Identify false) desk.old out.old.items
-        desk.new out.new.items }
+    ensures { Answered D.told result (λ _. Runs database.now Identify false) backend.old out.old.items
+        backend.new out.new.items }
 {
-    let end = desk.end();
-    say_identified(alloc, out, desk.systemid(), end, database.as_str())
+    let end = backend.end();
+    say_identified(alloc, out, backend.systemid(), end, database.as_str())
 }
 
-fn create<D: Desk>(
+fn create<D: Backend>(
     alloc: Global,
     database: &Database,
     slot: &Text,
-    desk: &mut D,
+    backend: &mut D,
     out: &mut BytesMut,
 ) -> Result<(), AllocError>
     requires { length slot.now ≤ 63 }
-    ensures { Answered D.told result (λ _. Runs database.now (Create slot.now) false) desk.old
-        out.old.items desk.new out.new.items }
+    ensures { Answered D.told result (λ _. Runs database.now (Create slot.now) false) backend.old
+        out.old.items backend.new out.new.items }
 {
-    let answer = desk.create(slot.as_str());
+    let answer = backend.create(slot.as_str());
     say_created(alloc, out, slot.as_str(), answer)
 }
 
-fn drop_slot<D: Desk>(
+fn drop_slot<D: Backend>(
     alloc: Global,
     database: &Database,
     slot: &Text,
-    desk: &mut D,
+    backend: &mut D,
     out: &mut BytesMut,
 ) -> Result<(), AllocError>
-    ensures { Answered D.told result (λ _. Runs database.now (Drop slot.now) false) desk.old
-        out.old.items desk.new out.new.items }
+    ensures { Answered D.told result (λ _. Runs database.now (Drop slot.now) false) backend.old
+        out.old.items backend.new out.new.items }
 {
-    let answer = desk.drop_slot(slot.as_str());
+    let answer = backend.drop_slot(slot.as_str());
     say_dropped(alloc, out, slot.as_str(), answer)
 }
 
 /// Whether a stream has begun.
-fn start<D: Desk>(
+fn start<D: Backend>(
     alloc: Global,
     database: &Database,
     slot: &Text,
     position: u64,
     options: &StreamOptions,
-    desk: &mut D,
+    backend: &mut D,
     out: &mut BytesMut,
 ) -> Result<bool, AllocError>
     ensures { Answered D.told result
-        (λ begun. Runs database.now (Start slot.now position options.now) begun) desk.old
-        out.old.items desk.new out.new.items }
+        (λ begun. Runs database.now (Start slot.now position options.now) begun) backend.old
+        out.old.items backend.new out.new.items }
 {
-    let answer = desk.start(slot.as_str(), position, options);
+    let answer = backend.start(slot.as_str(), position, options);
     let begun = has_begun(answer);
     say_started(
         alloc,
@@ -84,39 +84,39 @@ fn start<D: Desk>(
     Ok(begun)
 }
 
-fn has_begun(answer: Result<(), DeskFault>) -> bool
+fn has_begun(answer: Result<(), BackendFault>) -> bool
     ensures { result ≡ is_ok answer }
 {
     answer.is_ok()
 }
 
 /// Carries out a command; whether a stream has begun.
-fn run<D: Desk>(
+fn run<D: Backend>(
     alloc: Global,
     database: &Database,
     command: &Command,
-    desk: &mut D,
+    backend: &mut D,
     out: &mut BytesMut,
 ) -> Result<bool, AllocError>
     requires { HasShortSlot command.now }
-    ensures { Answered D.told result (λ begun. Runs database.now command.now begun) desk.old
-        out.old.items desk.new out.new.items }
+    ensures { Answered D.told result (λ begun. Runs database.now command.now begun) backend.old
+        out.old.items backend.new out.new.items }
 {
     match command {
         Command::Identify => {
-            identify(alloc, database, desk, out)?;
+            identify(alloc, database, backend, out)?;
             Ok(false)
         }
         Command::Create { slot } => {
-            create(alloc, database, slot, desk, out)?;
+            create(alloc, database, slot, backend, out)?;
             Ok(false)
         }
         Command::Drop { slot } => {
-            drop_slot(alloc, database, slot, desk, out)?;
+            drop_slot(alloc, database, slot, backend, out)?;
             Ok(false)
         }
         Command::Start { slot, at, options } => {
-            start(alloc, database, slot, *at, options, desk, out)
+            start(alloc, database, slot, *at, options, backend, out)
         }
     }
 }
@@ -134,29 +134,29 @@ fn why(is_question: bool, fault: CmdFault) -> Refusal
 /// Answers the text of a Query in a session on this database, where questions are not answered, or it is none; whether a stream has
 /// begun, and with it no query is waited for.
 ///
-/// A command makes its calls of the desk, each once. A text that is none makes no call: it is refused by the code of its
+/// A command makes its calls of the backend, each once. A text that is none makes no call: it is refused by the code of its
 /// fault, and the next query is waited for.
-pub(crate) fn reply<D: Desk>(
+pub(crate) fn reply<D: Backend>(
     alloc: Global,
     database: &Database,
     query: &str,
     is_question: bool,
-    desk: &mut D,
+    backend: &mut D,
     out: &mut BytesMut,
 ) -> Result<bool, AllocError>
     ensures { Answered D.told result
-        (λ begun. Replies (why_of is_question) database.now query.now begun) desk.old out.old.items
-        desk.new out.new.items }
+        (λ begun. Replies (why_of is_question) database.now query.now begun) backend.old out.old.items
+        backend.new out.new.items }
 {
     match parse_command(alloc, query) {
         Ok(command) => {
-            let answered = run(alloc, database, &command, desk, out);
+            let answered = run(alloc, database, &command, backend, out);
             drop(command);
             answered
         }
         Err(fault) => {
             let refusal = why(is_question, fault);
-            desk.refused(query, refusal);
+            backend.refused(query, refusal);
             let text = refusal_text(alloc, refusal, query)?;
             say_refused_with(alloc, out, refusal, text.as_str())?;
             Ok(false)

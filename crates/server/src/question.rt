@@ -71,7 +71,7 @@ fn plain_of(text: &str) -> Option<Question>
     }
 }
 
-/// The names of the list behind this text, where it stands at the front.
+/// The names of the list after this text, where it stands at the front.
 fn names_behind(alloc: Global, text: &str, front: &str) -> Result<Option<Items<Text>>, AllocError>
     requires { list_all (λ b. nat_lt b 128) front.now ≡ true }
     ensures { IfOk result

@@ -3,7 +3,7 @@
 ghost use Rattle.std.specs.Prelude.{◌≡◌, ◌≤◌, length};
 ghost use Rattle.server.specs.Refusals.{command_code, command_text, option_text, refusal_code, refusal_text};
 
-use crate::desk_fault::DeskFault;
+use crate::backend_fault::BackendFault;
 use replcmd::{CmdFault, OptionFault, Unserved};
 use std::fmt;
 
@@ -26,8 +26,8 @@ pub enum Refusal {
     Command(CmdFault),
     /// One that is a question, where questions are not answered.
     Question(CmdFault),
-    /// A command that the desk refused.
-    Asked(DeskFault),
+    /// A command that the backend refused.
+    Asked(BackendFault),
 }
 
 impl Refusal {
@@ -57,20 +57,30 @@ impl Refusal {
             Refusal::Question(fault) => {
                 (code_of(fault), "not answered without --answer-postgresql")
             }
-            Refusal::Asked(DeskFault::SlotMissing) => ("42704", "slot does not exist"),
-            Refusal::Asked(DeskFault::SlotInUse) => ("55006", "slot is in use"),
-            Refusal::Asked(DeskFault::SlotExists) => ("42710", "slot already exists"),
-            Refusal::Asked(DeskFault::NoSlotPlace) => ("53400", "no slot place is left"),
-            Refusal::Asked(DeskFault::UnknownPublication) => {
+            Refusal::Asked(BackendFault::SlotMissing) => ("42704", "slot does not exist"),
+            Refusal::Asked(BackendFault::SlotInUse) => ("55006", "slot is in use"),
+            Refusal::Asked(BackendFault::SlotExists) => ("42710", "slot already exists"),
+            Refusal::Asked(BackendFault::NoSlotPlace) => ("53400", "no slot place is left"),
+            Refusal::Asked(BackendFault::UnknownPublication) => {
                 ("42704", "publication does not exist")
             }
-            Refusal::Asked(DeskFault::ListConflict) => ("0A000", "different column lists"),
-            Refusal::Asked(DeskFault::NoReader) => ("53400", "too many senders"),
-            Refusal::Asked(DeskFault::StartAhead(_)) => (
+            Refusal::Asked(BackendFault::ListConflict) => ("0A000", "different column lists"),
+            Refusal::Asked(BackendFault::NoReader) => ("53400", "too many senders"),
+            Refusal::Asked(BackendFault::StartAhead(_)) => (
                 "55000",
                 "start is ahead of what the slot has sent",
             ),
-            Refusal::Asked(DeskFault::Memory) => ("53200", "out of memory"),
+            Refusal::Asked(BackendFault::SlotLost) => (
+                "55000",
+                "can no longer get changes from replication slot",
+            ),
+            Refusal::Asked(BackendFault::NotOwner) => {
+                ("42501", "must be owner of replication slot")
+            }
+            Refusal::Asked(BackendFault::NotGranted) => {
+                ("42501", "permission denied for publication")
+            }
+            Refusal::Asked(BackendFault::Memory) => ("53200", "out of memory"),
         }
     }
 }

@@ -11,7 +11,7 @@ ghost use Rattle.replcmd.specs.Position.{position_text};
 ghost use Rattle.server.specs.Said.{sent_frame, error_frame, error_of_refusal, error_and_ready, ready, greeting, completion, status, column_of, text_type, int4_type, IsSmall, identity_columns, identity_values, slot_columns, slot_values, key_frame, columns_frame, values_frame, slot_made, answer_to_identify, answer_to_create, answer_to_drop, end_of_stream};
 
 use crate::answer_rows::{identity_columns, identity_values, slot_columns, slot_values};
-use crate::desk_fault::DeskFault;
+use crate::backend_fault::BackendFault;
 use crate::naming::say_slot_refused;
 use crate::refusal::Refusal;
 use bytes::BytesMut;
@@ -227,7 +227,7 @@ pub fn say_dropped(
     alloc: Global,
     out: &mut BytesMut,
     slot: &str,
-    answer: Result<(), DeskFault>,
+    answer: Result<(), BackendFault>,
 ) -> Result<(), AllocError>
     ensures { Puts result out.old.items out.new.items (answer_to_drop slot.now answer) }
 {
@@ -370,7 +370,7 @@ pub fn say_created(
     alloc: Global,
     out: &mut BytesMut,
     slot: &str,
-    answer: Result<u64, DeskFault>,
+    answer: Result<u64, BackendFault>,
 ) -> Result<(), AllocError>
     requires { length slot.now ≤ 2 ^ 16 }
     ensures { Puts result out.old.items out.new.items (answer_to_create slot.now answer) }

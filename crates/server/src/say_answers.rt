@@ -7,7 +7,7 @@ ghost use Rattle.pqformat.specs.Putting.{Puts};
 ghost use Rattle.server.specs.Answers.{IsShort, IsShortName, single_row, single_column, table_row, table_columns, end_of_rows, path_set, mode_shown, publications_told, tables_told};
 ghost use Rattle.server.specs.Said.{other_greeting};
 
-use crate::desk_fault::DeskFault;
+use crate::backend_fault::BackendFault;
 use crate::refusal::Refusal;
 use crate::say::{
     say_authenticated, say_columns, say_completed, say_key, say_ready, say_refused_ready,
@@ -136,7 +136,7 @@ pub fn say_mode(alloc: Global, out: &mut BytesMut) -> Result<(), AllocError>
 pub fn say_publications(
     alloc: Global,
     out: &mut BytesMut,
-    answer: Result<Items<Text>, DeskFault>,
+    answer: Result<Items<Text>, BackendFault>,
 ) -> Result<(), AllocError>
     requires { IfOk answer (λ names. AllByRecursion IsShort names) }
     ensures { Puts result out.old.items out.new.items (publications_told answer) }
@@ -156,7 +156,7 @@ pub fn say_publications(
 pub fn say_found_tables(
     alloc: Global,
     out: &mut BytesMut,
-    answer: Result<Items<TableName>, DeskFault>,
+    answer: Result<Items<TableName>, BackendFault>,
 ) -> Result<(), AllocError>
     requires { IfOk answer (λ tables. AllByRecursion IsShortName tables) }
     ensures { Puts result out.old.items out.new.items (tables_told answer) }

@@ -9,8 +9,8 @@ ghost use Rattle.server.specs.Segment.{IsTurned, Said, TakesTurn};
 ghost use Rattle.server.specs.Turns.{Hears, HearsExtended};
 ghost use Rattle.server.specs.declared.stage.Stage.TheVariants.{Idle};
 
+use crate::backend::Backend;
 use crate::database::Database;
-use crate::desk::Desk;
 use crate::extended::{Extended, is_extended, read_extended};
 use crate::refusal::Refusal;
 use crate::replying::reply_in;
@@ -22,37 +22,37 @@ use frames::{Front, read_front};
 use std::alloc::{AllocError, Global};
 
 /// Answers a query.
-fn answer_query<D: Desk>(
+fn answer_query<D: Backend>(
     alloc: Global,
     dialect: Dialect,
     database: Database,
     query: &str,
-    desk: &mut D,
+    backend: &mut D,
     out: &mut BytesMut,
 ) -> Result<Stage, AllocError>
     ensures { Answered D.told result
         (λ next asked said. Hears dialect database (Query (record { text = query.now })) asked said
         next)
-        desk.old out.old.items desk.new out.new.items }
+        backend.old out.old.items backend.new out.new.items }
 {
-    if reply_in(alloc, dialect, &database, query, desk, out)? {
+    if reply_in(alloc, dialect, &database, query, backend, out)? {
         Ok(Stage::Streaming(database))
     } else {
         Ok(Stage::Idle(database))
     }
 }
 
-fn answer_front<D: Desk>(
+fn answer_front<D: Backend>(
     alloc: Global,
     dialect: Dialect,
     database: Database,
     front: &Front,
-    desk: &mut D,
+    backend: &mut D,
     out: &mut BytesMut,
 ) -> Result<Stage, AllocError>
     ensures { Answered D.told result
-        (λ next asked said. Hears dialect database front.now asked said next) desk.old out.old.items
-        desk.new out.new.items }
+        (λ next asked said. Hears dialect database front.now asked said next) backend.old out.old.items
+        backend.new out.new.items }
 {
     match front {
         Front::Query(query) => answer_query(
@@ -60,7 +60,7 @@ fn answer_front<D: Desk>(
             dialect,
             database,
             query.text.as_str(),
-            desk,
+            backend,
             out,
         ),
         Front::Terminate => Ok(Stage::Closed),
@@ -130,16 +130,16 @@ fn turn_extended(
 }
 
 /// The turn of a session.
-pub(crate) fn turn_session<D: Desk>(
+pub(crate) fn turn_session<D: Backend>(
     alloc: Global,
     service: Service,
     database: Database,
     pending: &[u8],
-    desk: &mut D,
+    backend: &mut D,
     out: &mut BytesMut,
 ) -> Result<Turned, AllocError>
-    ensures { TakesTurn D.told service (Idle database) pending.now result desk.old out.old.items
-        desk.new out.new.items }
+    ensures { TakesTurn D.told service (Idle database) pending.now result backend.old out.old.items
+        backend.new out.new.items }
 {
     if is_extended(pending) {
         return turn_extended(alloc, database, pending, out);
@@ -150,7 +150,7 @@ pub(crate) fn turn_session<D: Desk>(
             count: 0,
         }),
         Ok(Some((front, count))) => {
-            let answered = answer_front(alloc, service.dialect, database, &front, desk, out);
+            let answered = answer_front(alloc, service.dialect, database, &front, backend, out);
             drop(front);
             let stage = answered?;
             Ok(Turned { stage, count })

@@ -4,7 +4,7 @@ ghost use Rattle.std.specs.Prelude.{◌≡◌};
 ghost use Rattle.pqformat.specs.Putting.{Puts};
 ghost use Rattle.server.specs.Said.{answer_to_start};
 
-use crate::desk_fault::DeskFault;
+use crate::backend_fault::BackendFault;
 use crate::naming::say_start_refused;
 use crate::say::say;
 use bytes::BytesMut;
@@ -19,7 +19,7 @@ pub fn say_started(
     out: &mut BytesMut,
     slot: &str,
     publications: &[Text],
-    answer: Result<(), DeskFault>,
+    answer: Result<(), BackendFault>,
 ) -> Result<(), AllocError>
     ensures { Puts result out.old.items out.new.items (answer_to_start slot.now publications.now answer) }
 {

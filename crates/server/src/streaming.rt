@@ -8,8 +8,8 @@ ghost use Rattle.server.specs.Segment.{TakesTurn};
 ghost use Rattle.server.specs.Turns.{Streams};
 ghost use Rattle.server.specs.declared.stage.Stage.TheVariants.{Streaming};
 
+use crate::backend::Backend;
 use crate::database::Database;
-use crate::desk::Desk;
 use crate::refusal::Refusal;
 use crate::say::say_refused;
 use crate::service::Service;
@@ -19,29 +19,29 @@ use copyboth::{Status, read_client};
 use frames::{Front, read_front};
 use std::alloc::{AllocError, Global};
 
-/// Tells the desk how far the client is, and whether it asks for an answer.
-fn tell<D: Desk>(status: Status, desk: &mut D)
-    ensures { AreAsked D.told desk.old (Flushed status.flushed status.ask ∷ []) desk.new }
+/// Tells the backend how far the client is, and whether it asks for an answer.
+fn tell<D: Backend>(status: Status, backend: &mut D)
+    ensures { AreAsked D.told backend.old (Flushed status.flushed status.ask ∷ []) backend.new }
 {
-    desk.flushed(status.flushed, status.ask);
+    backend.flushed(status.flushed, status.ask);
 }
 
-/// Answers the bytes of a CopyData: a status is told to the desk, and what is none is refused.
-fn answer_data<D: Desk>(
+/// Answers the bytes of a CopyData: a status is told to the backend, and what is none is refused.
+fn answer_data<D: Backend>(
     alloc: Global,
     database: Database,
     bytes: &[u8],
-    desk: &mut D,
+    backend: &mut D,
     out: &mut BytesMut,
 ) -> Result<Stage, AllocError>
     ensures { Answered D.told result
         (λ next asked said. Streams database (CopyData (record { bytes = bytes.now })) asked said
         next)
-        desk.old out.old.items desk.new out.new.items }
+        backend.old out.old.items backend.new out.new.items }
 {
     match read_client(bytes) {
         Ok(status) => {
-            tell(status, desk);
+            tell(status, backend);
             Ok(Stage::Streaming(database))
         }
         Err(_) => {
@@ -51,18 +51,18 @@ fn answer_data<D: Desk>(
     }
 }
 
-fn answer_in_stream<D: Desk>(
+fn answer_in_stream<D: Backend>(
     alloc: Global,
     database: Database,
     front: &Front,
-    desk: &mut D,
+    backend: &mut D,
     out: &mut BytesMut,
 ) -> Result<Stage, AllocError>
     ensures { Answered D.told result (λ next asked said. Streams database front.now asked said next)
-        desk.old out.old.items desk.new out.new.items }
+        backend.old out.old.items backend.new out.new.items }
 {
     match front {
-        Front::CopyData(data) => answer_data(alloc, database, data.bytes.as_slice(), desk, out),
+        Front::CopyData(data) => answer_data(alloc, database, data.bytes.as_slice(), backend, out),
         Front::CopyDone => Ok(Stage::Stopping(database)),
         Front::Terminate => Ok(Stage::Closed),
         Front::Query(_) | Front::CopyFail(_) => {
@@ -73,16 +73,16 @@ fn answer_in_stream<D: Desk>(
 }
 
 /// The turn of a client to which a stream runs.
-pub(crate) fn turn_stream<D: Desk>(
+pub(crate) fn turn_stream<D: Backend>(
     alloc: Global,
     database: Database,
     pending: &[u8],
-    desk: &mut D,
+    backend: &mut D,
     out: &mut BytesMut,
 ) -> Result<Turned, AllocError>
     ensures { (service : Service) →
-        TakesTurn D.told service (Streaming database) pending.now result desk.old out.old.items
-        desk.new out.new.items }
+        TakesTurn D.told service (Streaming database) pending.now result backend.old out.old.items
+        backend.new out.new.items }
 {
     match read_front(alloc, pending) {
         Ok(None) => Ok(Turned {
@@ -90,7 +90,7 @@ pub(crate) fn turn_stream<D: Desk>(
             count: 0,
         }),
         Ok(Some((front, count))) => {
-            let answered = answer_in_stream(alloc, database, &front, desk, out);
+            let answered = answer_in_stream(alloc, database, &front, backend, out);
             drop(front);
             let stage = answered?;
             Ok(Turned { stage, count })

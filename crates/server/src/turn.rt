@@ -10,8 +10,8 @@ ghost use Rattle.server.specs.Segment.{IsTurned, TakesTurn, Said};
 ghost use Rattle.server.specs.Turns.{Opens};
 ghost use Rattle.server.specs.declared.stage.Stage.TheVariants.{Fresh};
 
+use crate::backend::Backend;
 use crate::database::MOST_DATABASE_BYTES;
-use crate::desk::Desk;
 use crate::opening::open;
 use crate::service::Service;
 use crate::session::turn_session;
@@ -104,22 +104,22 @@ fn turn_startup(
 }
 
 /// Takes one turn at this stage. While a stream stops, all that is pending waits; closed, it is passed over.
-pub(crate) fn turn<D: Desk>(
+pub(crate) fn turn<D: Backend>(
     alloc: Global,
     service: Service,
     stage: Stage,
     pending: &[u8],
-    desk: &mut D,
+    backend: &mut D,
     out: &mut BytesMut,
 ) -> Result<Turned, AllocError>
-    ensures { TakesTurn D.told service stage pending.now result desk.old out.old.items desk.new
+    ensures { TakesTurn D.told service stage pending.now result backend.old out.old.items backend.new
         out.new.items }
 {
     match stage {
         Stage::Fresh => turn_startup(alloc, service, pending, out),
-        Stage::Idle(database) => turn_session(alloc, service, database, pending, desk, out),
+        Stage::Idle(database) => turn_session(alloc, service, database, pending, backend, out),
         Stage::Skipping(database) => turn_skipping(alloc, database, pending, out),
-        Stage::Streaming(database) => turn_stream(alloc, database, pending, desk, out),
+        Stage::Streaming(database) => turn_stream(alloc, database, pending, backend, out),
         Stage::Stopping(database) => Ok(Turned {
             stage: Stage::Stopping(database),
             count: 0,

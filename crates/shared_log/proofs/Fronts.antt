@@ -8,7 +8,7 @@ use Rattle.shared_log.specs.declared.entry.Entry.TheVariants.{Offered, Confirmed
 use Rattle.shared_log.specs.Fronts.{one_of, settled_from, settled_records, open_from, shown_records, ends_from, ends_confirmed}
 use Rattle.shared_log.proofs.Prefixes.{begins_itself, begins_longer, begins_other}
 
--- ---- one history behind another
+-- ---- one history after another
 
 pub settled_behind : (log : List Record) (o : Option Record) (es fs : List Entry) → settled_from log o (es ++ fs) ≡ settled_from (settled_from log o es) (open_from o es) fs
 settled_behind log o [] fs = refl

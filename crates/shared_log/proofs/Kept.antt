@@ -23,7 +23,7 @@ restarts-push before (q ∷ log) r =
     ap (λ l. (q, oldest (before ++ q ∷ [])) ∷ l)
     (restarts-push (before ++ q ∷ []) log r ∙ ap (λ l. with_restarts_from (before ++ q ∷ []) log ++ (r, oldest (l ++ r ∷ [])) ∷ []) (append_assoc before (q ∷ []) log))
 
--- the records of a copy that keeps those behind others
+-- the records of a copy that keeps those after others
 pub records_of : (items : List Logged) (before log : List Record) → kept_in items ≡ with_restarts_from before log → records_in items ≡ log
 records_of items before log is = sym (map_twice (λ (p : Record × ℕ). p.0) (λ (l : Logged). (l.entry.value, l.restart)) items) ∙ ap (map (λ p. p.0)) is ∙ firsts before log
   where

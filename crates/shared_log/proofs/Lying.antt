@@ -1,4 +1,4 @@
--- The end of a log that lies in memory: records enter behind it, and records before a new edge are given back.
+-- The end of a log that lies in memory: records enter after it, and records before a new edge are given back.
 use Rattle.std.proofs.Common.{◌≡◌, ◌+◌, ◌-◌, ◌≤◌, ℕ, zero, suc, List, [], ◌∷◌, ◌++◌, length, take, drop, fold, refl, sym, ap, subst, ◌∙◌, arith, length-append}
 use Rattle.std.specs.List.{drop-map, take-map}
 use Rattle.std.proofs.lemmas.List.{length-drop, map-append, take-append-drop, take-append-le, take_at}
@@ -92,7 +92,7 @@ enters_at log edge kept rest place first lies at le within =
     let P : List (Record × ℕ) → Type 0 = λ l. LiesAt log first (edge_past edge (take (first - edge.place) l)) (drop (first - edge.place) l) in
     subst P (sym stays) (record { lies = given.lies; place = given.place ∙ omega (arith, le) })
 
--- what lies in memory once a record stands behind it
+-- what lies in memory once a record stands after it
 pub lies_longer : (log : List Record) (r : Record) (edge : Edge) (kept : List (Record × ℕ)) → LiesFrom log edge kept → LiesFrom (log ++ r ∷ []) edge (kept ++ (r, oldest (log ++ r ∷ [])) ∷ [])
 lies_longer log r edge kept lies =
     let front : take edge.place (log ++ r ∷ []) ≡ take edge.place log = take-append-le edge.place log (r ∷ []) lies.within in
@@ -119,14 +119,14 @@ pub waits_rise : (log : List Record) (first last : ℕ) (puts : List Put) → Wa
 waits_rise log first last [] waits = waits
 waits_rise log first last (p ∷ puts) waits = omega (arith, waits.1, waits_rise log p.edge last puts waits.2)
 
--- what was made of a copy by all that waited, and a last record: the end of the log lies there, and that record behind it
+-- what was made of a copy by all that waited, and a last record: the end of the log lies there, and that record after it
 pub record LiesBelow {S : Type 0} (log : List Record) (first : ℕ) (item : Record × ℕ) (seen : S) (state : Edge × List (Record × ℕ) × S) : Type 0 where
   pub kept : List (Record × ℕ)
   pub lies : LiesAt log first state.0 kept
   pub items : state.1 ≡ kept ++ item ∷ []
   pub sees : state.2 ≡ seen
 
--- what waits at one place, one behind the other: the last of it stands there
+-- what waits at one place, one after the other: the last of it stands there
 pub folded : {S : Type 0} (item_of : Put → Record × ℕ) (seen_of : Put → S) (log : List Record) (edge : Edge) (kept rest : List (Record × ℕ)) (s : S) (last : ℕ) (puts : List Put) (put : Put)
     → LiesFrom log edge kept → Waits log edge.place last puts → put.place ≡ length log → last ≤ put.edge → put.edge ≤ length log
     → LiesBelow log put.edge (item_of put) (seen_of put)

@@ -63,7 +63,7 @@ place-agrees : (p q : ℕ → Bool) → ((x : ℕ) → p x ≡ q x) → (os : Li
 place-agrees p q same [] = refl
 place-agrees p q same (o ∷ os) = rw (same o.xid) (ap (λ rest. cond (q o.xid) (Some o.place) rest) (place-agrees p q same os))
 
--- one that is there comes before one behind
+-- one that is there comes before one after
 place-there : (p : ℕ → Bool) (top : ℕ) (os : List Opening) (other : ℕ) → list_any (λ o. o.xid == top) os ≡ true → first_of (place_where p os) (cond (p top) (Some other) None) ≡ place_where p os
 unfolding first_of
 place-there p top [] other is = absurd cc
@@ -106,7 +106,7 @@ earlier log r p next = all_when (IsNamedIn log) _ each log (all_named log)
         ∙ ap (λ b. not b && p top) (has_ended-one log r top)
         ∙ parted (has_ended log top) (ends top r.body) (p top))
 
--- the record's own transaction is in progress behind it, unless it ends it
+-- the record's own transaction is in progress after it, unless it ends it
 own : (log : List Record) (r : Record) (top : ℕ) → IsNext log r.body → is_note r.body ≡ false → top_of (log ++ r ∷ []) (xid_in r.body) ≡ top → is_end r.body ≡ false → has_ended log top ≡ false
 own log r top next other is goes_on = by_body r.body refl next other goes_on
   where
@@ -259,7 +259,7 @@ restart-own log os top over = by_end over
         ap (place_or (suc (length log))) (place-filter (λ x. true) (λ x. not (x == top)) os ∙ place-agrees (λ x. not (x == top) && true) (λ x. not (x == top)) (λ x. sym (and_true (not (x == top)))) os)
     by_end false = by_first os
 
--- the oldest behind one more record
+-- the oldest after one more record
 pub oldest-next : (log : List Record) (r : Record) (os : List Opening) (owner : Option ℕ) (over : Bool) → IsWellFormedLog (log ++ r ∷ []) → owner_of (log ++ r ∷ []) r ≡ owner → is_end r.body ≡ over
     → AreOpenings log os → restart_after owner over (length log) os ≡ oldest (log ++ r ∷ [])
 oldest-next log r os owner over good is ends_is are =

@@ -72,13 +72,13 @@ shown_short log o [] = omega arith
 shown_short log o (Offered r ∷ es) = omega (arith, shown_short log (Some r) es)
 shown_short log o (Confirmed ∷ es) = omega (arith, shown_short (log ++ one_of o) None es, length-append log (one_of o))
 
--- so a place behind some of its records is a number of 64 bits, as a place before them is
+-- so a place after some of its records is a number of 64 bits, as a place before them is
 pub fits_there : (es : List Entry) (place max most : ℕ) (part : List Record) → part ≡ take max (drop place (shown_records es)) → place < most → length es < most → place + length part < most
 fits_there es place max most part is before short =
     let shown : length (shown_records es) ≤ length es = omega (arith, shown_short [] None es, length-append (settled_records es) (one_of (open_from None es))) in
     omega (arith, ap length is, length-take max (drop place (shown_records es)), length-drop place (shown_records es), shown, before, short)
 
--- the restart place behind so many of them
+-- the restart place after so many of them
 pub oldest_there : (log : List Record) (edge : Edge) (items : List Logged) (count : ℕ) (d : Logged) → LiesFrom log edge (kept_in items) → count ≢ 0 → count ≤ length items → (get_or items (count - 1) d).restart ≡ oldest (take (edge.place + count) log)
 oldest_there log edge items count d lies some within =
     let records = records_lie log edge items lies in
@@ -86,7 +86,7 @@ oldest_there log edge items count d lies some within =
     restart_at items (take edge.place log) (count - 1) d (lies.records ∙ ap (λ (l : List Record). with_restarts_from (take edge.place log) l) (sym records)) (omega (arith, some, within))
     ∙ ap (λ (n : ℕ). oldest (take edge.place log ++ take n (records_in items))) at ∙ ap (λ (l : List Record). oldest (take edge.place log ++ take count l)) records ∙ ap oldest (sym (take_add edge.place count log))
 
--- the position behind so many of them
+-- the position after so many of them
 pub position_there : (log : List Record) (edge : Edge) (items : List Logged) (count : ℕ) (d : Logged) → LiesFrom log edge (kept_in items) → count ≢ 0 → count ≤ length items
     → (get_or items (count - 1) d).entry.value.end ≡ end_of FIRST_POSITION (take (edge.place + count) log)
 position_there log edge items count d lies some within =

@@ -9,7 +9,7 @@ abbrev pub one_of : Option Record → List Record
 one_of None = []
 one_of (Some r) = r ∷ []
 
--- the records that are confirmed, behind those of a log and with what was offered before
+-- the records that are confirmed, after those of a log and with what was offered before
 abbrev pub settled_from : List Record → Option Record → List Entry → List Record
 settled_from log offered [] = log
 settled_from log offered (Offered r ∷ es) = settled_from log (Some r) es

@@ -1,4 +1,4 @@
--- How a copy keeps the log: its records from an edge on, and beside each the place from which whoever starts behind it begins to read.
+-- How a copy keeps the log: its records from an edge on, and beside each the place from which whoever starts after it begins to read.
 -- What stands before the edge was given back.
 use Rattle.std.specs.Prelude.{◌≡◌, ℕ, suc, ◌-◌, ◌≤◌, List, [], ◌∷◌, ◌++◌, length, map, take, drop, min, max}
 use Rattle.wal.specs.declared.record.TheConstants.{FIRST_POSITION}
@@ -15,7 +15,7 @@ records_in items = map (λ l. l.entry.value) items
 abbrev pub kept_in : List Logged → List (Record × ℕ)
 kept_in items = map (λ l. (l.entry.value, l.restart)) items
 
--- the records behind others, each with the place of the earliest record of a transaction that is in progress behind it
+-- the records after others, each with the place of the earliest record of a transaction that is in progress after it
 abbrev pub with_restarts_from : List Record → List Record → List (Record × ℕ)
 with_restarts_from before [] = []
 with_restarts_from before (r ∷ rs) = (r, oldest (before ++ r ∷ [])) ∷ with_restarts_from (before ++ r ∷ []) rs

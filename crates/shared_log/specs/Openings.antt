@@ -45,7 +45,7 @@ abbrev pub place_or : ℕ → Option ℕ → ℕ
 place_or other None = other
 place_or other (Some place) = place
 
--- the place of the oldest behind that record
+-- the place of the oldest after that record
 abbrev pub restart_after : Option ℕ → Bool → ℕ → List Opening → ℕ
 restart_after None ends place os = place_or (suc place) (place_where (λ x. true) os)
 restart_after (Some top) ends place os = place_or (if ends then suc place else place) (place_where (λ x. not ends || not (x == top)) os)

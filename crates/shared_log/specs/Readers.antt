@@ -18,7 +18,7 @@ seen_of r = (view r.reader.place).seen
 abbrev pub edge_of : {L : Type 0} → LogReader L → ℕ
 edge_of r = (view r.reader.place).edge
 
--- The log was seen as it stood before the last record that the reader was told of: behind what shows it there is more than that
+-- The log was seen as it stood before the last record that the reader was told of: after what shows it there is more than that
 -- record's confirmation.
 abbrev pub IsBehind : List Entry → List Record → Type 0
 IsBehind told seen = (front : List Entry) × (seen ≡ shown_records front) × IsPrefix front told × (length front + 1 < length told)

@@ -22,7 +22,7 @@ use wal::{FIRST_POSITION, Record};
 #[derive(Drop)]
 pub struct Logged {
     pub(crate) entry: Arc<Record>,
-    /// The place from which whoever starts behind the record begins to read.
+    /// The place from which whoever starts after the record begins to read.
     pub(crate) restart: usize,
 }
 

@@ -68,7 +68,7 @@ impl<L: LogName> Front<L> {
         }
     }
 
-    /// Offers a record behind all that was seen, and says whether it did. It did not where the history is longer.
+    /// Offers a record after all that was seen, and says whether it did. It did not where the history is longer.
     pub(crate) fn offer(&mut self, history: &History<L>, about: &Record) -> bool
         requires room { length self.old < 2 ^ 62 }
         ensures { MatchBool result (self.new ≡ self.old ++ Offered about.now ∷ [])

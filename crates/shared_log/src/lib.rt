@@ -1,4 +1,11 @@
 //! One growing log that many threads see: a writer adds records, and readers fetch them without a lock.
+//!
+//! A `LogWriter` pushes records (`writer.rt`) and gives those back that nobody needs (`given.rt`); each `LogReader` fetches from
+//! its place on (`reader.rt`), and finds where to begin again (`resuming.rt`). `law.rt` and `rule.rt` say what each step of a
+//! thread keeps.
+//!
+//! Read `history.rt`, `writer.rt`, `reader.rt`, then specs/Sharing.antt. Above, two contracts are used: a push adds its record
+//! whole or changes nothing, and a fetch gives the records from a place on, of one log that only grows.
 #![tactic(auto)]
 
 mod copy;

@@ -84,7 +84,7 @@ impl Openings {
         }
     }
 
-    /// The place of the oldest record of a transaction that is in progress behind that record, or the place behind it.
+    /// The place of the oldest record of a transaction that is in progress after that record, or the place after it.
     pub fn restart_after(&self, top: Option<u32>, ends: bool, place: usize) -> usize
         requires few { place < 2 ^ 62 }
         ensures { result ≡ restart_after top ends place self.now.items.items }

@@ -162,7 +162,7 @@ fn part_of(
     }
 }
 
-/// Shares of up to `max` records that stand behind the first `skipped`.
+/// Shares of up to `max` records that stand after the first `skipped`.
 fn shares(
     alloc: Global,
     records: &VecDeque<Logged>,

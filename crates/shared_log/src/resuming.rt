@@ -157,7 +157,7 @@ fn place_from(copy: &LogCopy, start: u64) -> usize
     )
 }
 
-/// The place of the earliest record of a transaction that is in progress behind so many of the records that lie in a copy, as it
+/// The place of the earliest record of a transaction that is in progress after so many of the records that lie in a copy, as it
 /// was kept there.
 fn oldest_at(copy: &LogCopy, count: usize) -> usize
     requires lies { LiesFrom (shown_records copy.now.mark.seen.log) copy.now.edge
@@ -172,7 +172,7 @@ fn oldest_at(copy: &LogCopy, count: usize) -> usize
     copy.records[count - 1].restart
 }
 
-/// The position behind so many of the records that lie in a copy: where the record before it ends.
+/// The position after so many of the records that lie in a copy: where the record before it ends.
 fn position_at(copy: &LogCopy, count: usize) -> u64
     requires lies { LiesFrom (shown_records copy.now.mark.seen.log) copy.now.edge
         (kept_in copy.now.records.items) }

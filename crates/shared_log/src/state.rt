@@ -38,7 +38,7 @@ pub(crate) struct LogState<L: LogName> {
     sure: Front<L>,
     count: usize,
     end: u64,
-    /// The transactions in progress, by which each record is told where to begin behind it.
+    /// The transactions in progress, by which each record is told where to begin after it.
     openings: Openings,
 }
 

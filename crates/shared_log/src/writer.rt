@@ -70,7 +70,7 @@ impl<L: LogName> LogWriter<L> {
     ) -> Result<(Self, Vec<LogReader<L>>), AllocError>
         requires name { opened.seen.book ≡ L.book }
         requires some { 0 < readers }
-        requires few { readers ≤ 32 }
+        requires few { readers ≤ 2048 }
         ensures empty { IfOk result (λ r. r.0 ≡ record { records = []; given = 0 }) }
         ensures readers { IfOk result
             (λ r. (vec_len r.1 ≡ readers) × AllByRecursion (λ reader. reader.place ≡ 0) r.1.items) }
@@ -312,7 +312,7 @@ fn copies_of<L: LogName, R: Wait>(
 ) -> Result<(Writer<LogCopy, Put, View, Published<L>>, Vec<LogReader<L>>), AllocError>
     requires fresh { front.now ≡ [] }
     requires some { 0 < readers }
-    requires few { readers ≤ 32 }
+    requires few { readers ≤ 2048 }
     ensures shown { IfOk result (λ made. IsEmptyCopy made.0.desk.shown.value
         × (made.0.desk.shown.value.mark.seen.log ≡ [])) }
     ensures waits { IfOk result (λ made. drop made.0.behind made.0.log.items ≡ []) }
@@ -339,7 +339,7 @@ fn writer_of<L: LogName>(
 ) -> Result<Writer<LogCopy, Put, View, Published<L>>, AllocError>
     requires fresh { (mark.now.seen.log ≡ []) × (mark.now.seen.book ≡ L.book) }
     requires some { 0 < readers }
-    requires few { readers ≤ 32 }
+    requires few { readers ≤ 2048 }
     ensures shown { IfOk result (λ writer. IsEmptyCopy writer.desk.shown.value
         × (writer.desk.shown.value.mark.seen.log ≡ [])) }
     ensures waits { IfOk result (λ writer. drop writer.behind writer.log.items ≡ []) }

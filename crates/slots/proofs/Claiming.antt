@@ -76,6 +76,9 @@ module _ {A : Type 0} (place : A → ℕ) (v w : View) (d : Directory) (ss : Lis
       (λ lease. (place lease ≡ p) × Holds p w × Did Claim p 1 (held_by v.number) v w)
       (λ e. (x : ℕ) × IsRefusal e x × Did Claim p x x v w)
 
+  low : p < 1024
+  low = let b = named.below name p found in let f = stands.few in omega (arith, b, f)
+
   the : Found v ss name p
   the = found_slot v d ss places name p named stands found
 
@@ -84,13 +87,13 @@ module _ {A : Type 0} (place : A → ℕ) (v w : View) (d : Directory) (ss : Lis
 
   lost : (e : SlotFault) (x : ℕ) → IsRefusal e x → Did Claim p x x v w → (q : ℕ) → Alike (facts q v.steps) (facts q w.steps)
   lost e x r did = all_alike v w p _ (one_step v w (slot_step Claim p x x) did.0) (record {
-    state = did.1.alone stands.alone;
+    state = did.1.alone stands.alone low;
     position = refl;
     held = ap (λ (b : Bool). b || (facts p v.steps).held) (ne_eqb x 1 (not_free e x r));
   })
 
   pub claim_stands : (r : Result A SlotFault) → IsClaim r → StandsIn w ss places
-  claim_stands (Ok lease) is = still_stands v w p _ (won is.2) ss ss places stands (named.below name p found) refl (λ e. let f = is.2.1.alone stands.alone in omega (arith, e, f))
+  claim_stands (Ok lease) is = still_stands v w p _ (won is.2) ss ss places stands (named.below name p found) refl (λ e. let f = is.2.1.alone stands.alone low in omega (arith, e, f))
       (each_held v w p _ (won is.2) true refl refl refl ss stands.each)
   claim_stands (Err e) is = stands_same v w (ap (λ (z : View). z.number) is.2.0) (ap (λ (z : View). z.seats) is.2.0) (lost e is.0 is.1 is.2) ss places stands
 
@@ -114,10 +117,14 @@ module _ {A : Type 0} (place : A → ℕ) (v w : View) (d : Directory) (ss : Lis
       let after = found_slot w d ss places name p named (claim_stands (Ok lease) is) found in (
         place_shown w name ss ∙ sym (named.same name) ∙ found ∙ ap (λ (q : ℕ). Option.Some q) (sym is.0),
         ap (holds_at (place lease)) (sym old) ∙ ap (λ (q : ℕ). holds_at q (slots_in_view v ss places)) is.0
-            ∙ ap is_in_use (sym (slot_as_named v name p ss the.all) ∙ the.of) ∙ the.at.is_held ∙ free_there v.number (facts p v.steps) the.at.fits.1 (is.2.1.alone stands.alone),
+            ∙ ap is_in_use (sym (slot_as_named v name p ss the.all) ∙ the.of) ∙ the.at.is_held ∙ free_there v.number (facts p v.steps) the.at.fits.1 (is.2.1.alone stands.alone low),
         ap (λ (q : ℕ). holds_at q (slots_in_view w ss places)) is.0
             ∙ ap is_in_use (sym (slot_as_named w name p ss after.all) ∙ after.of) ∙ after.at.is_held ∙ is.1,
       )
+
+  pub claim_within : (r : Result A SlotFault) → IsClaim r → IfOk r (λ lease. place lease < 16)
+  claim_within (Err e) is = tt
+  claim_within (Ok lease) is = let b = named.below name p found in let f = stands.few in let e = is.0 in omega (arith, b, f, e)
 
   pub claim_only : (s : SlotsState) → slots_in_view v ss places ≡ s → (r : Result A SlotFault) → IsClaim r → IfOk r (λ lease. IsOnlyAt name (place lease) s.slots)
   claim_only s old (Err e) is = tt
@@ -125,8 +132,8 @@ module _ {A : Type 0} (place : A → ℕ) (v w : View) (d : Directory) (ss : Lis
 
   pub claim_refused : (r : Result A SlotFault) → IsClaim r → RefusedExactly (claim_refusal name (slots_in_view v ss places)) r
   claim_refused (Ok lease) is = ap claim_refusal_of the.of
-      ∙ ap (λ (b : Bool). cond b (Option.Some faults.InUse) None) (the.at.is_held ∙ free_there v.number (facts p v.steps) the.at.fits.1 (is.2.1.alone stands.alone))
-  claim_refused (Err e) is = let h = held_there v.number (facts p v.steps) the.at.fits.1 is.0 e (is.2.1.alone stands.alone) is.1 in
+      ∙ ap (λ (b : Bool). cond b (Option.Some faults.InUse) None) (the.at.is_held ∙ free_there v.number (facts p v.steps) the.at.fits.1 (is.2.1.alone stands.alone low))
+  claim_refused (Err e) is = let h = held_there v.number (facts p v.steps) the.at.fits.1 is.0 e (is.2.1.alone stands.alone low) is.1 in
       ap claim_refusal_of the.of ∙ ap (λ (b : Bool). cond b (Option.Some faults.InUse) None) (the.at.is_held ∙ h.0) ∙ ap (λ (x : SlotFault). Option.Some x) (sym h.1)
 
 -- what is done at a name's place is done to the slot of the name

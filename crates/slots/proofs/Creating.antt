@@ -7,7 +7,7 @@ use Rattle.slots.specs.declared.step.View.{View}
 use Rattle.slots.specs.Standings.{held_by}
 use Rattle.slots.specs.Facts.{Facts, facts, facts_after}
 use Rattle.slots.specs.Rule.{StandsAs, slot_step, with_step}
-use Rattle.slots.specs.Seats.{Did, DidAt, with_steps, steps_past, AreTaken, Created}
+use Rattle.slots.specs.Seats.{Did, DidAt, with_steps, steps_past, AreTaken, Created, Made}
 use Rattle.slots.proofs.Facts.{facts_here, facts_there}
 
 passed_snoc : (i : ℕ) (xs : List ℕ) (x : ℕ) → steps_past i (xs ++ x ∷ []) ≡ steps_past i xs ++ slot_step Create (i + length xs) x x ∷ []
@@ -29,7 +29,7 @@ stands_back v w p x e n c s = record {
   named = λ h. s.named (ap (λ (f : Facts). f.held) e ∙ h) ∙ ap held_by n;
   held = λ h. sym (ap (λ (f : Facts). f.held) e) ∙ s.held (h ∙ ap held_by (sym n));
   stays = λ h. s.stays (ap (λ (f : Facts). f.gone) e ∙ h);
-  alone = λ h. s.alone (c ∙ h) ∙ ap (λ (f : Facts). f.state) e;
+  alone = λ h low. s.alone (c ∙ h) low ∙ ap (λ (f : Facts). f.state) e;
 }
 
 -- after n places, each of which was found taken
@@ -74,7 +74,7 @@ module _ (v : View) (n : ℕ) (u : View) (so_far : Passed v n u) where
     follows = record {
       above = subst (λ (f : Facts). f.top ≤ found) created_facts raised.1.above;
       last = λ h. let held = never.named h in absurd (omega arith);
-      alone = λ one. raised.1.alone (ap (λ (z : View). z.seats) did.0 ∙ same_seats ∙ one) ∙ ap (λ (f : Facts). f.position) created_facts;
+      alone = λ one low. raised.1.alone (ap (λ (z : View). z.seats) did.0 ∙ same_seats ∙ one) low ∙ ap (λ (f : Facts). f.position) created_facts;
     };
     steps = released ∙ ap (λ (z : View). with_step z (slot_step Release n (held_by z.number) 1)) (raised.0 ∙ ap (λ (t : ℕ). with_step a (slot_step Raise n found t)) is)
         ∙ ap (λ (z : View). with_step (with_step z (slot_step Raise n found (max found position))) (slot_step Release n (held_by z.number) 1)) did.0
@@ -90,3 +90,25 @@ module _ (v : View) (n : ℕ) (u : View) (so_far : Passed v n u) where
 
       three : (ss ps : List SlotStep) (x y z : SlotStep) → (((ss ++ ps) ++ x ∷ []) ++ y ∷ []) ++ z ∷ [] ≡ ss ++ (ps ++ x ∷ y ∷ z ∷ [])
       three ss ps x y z = append_assoc ((ss ++ ps) ++ x ∷ []) (y ∷ []) (z ∷ []) ∙ append_assoc (ss ++ ps) (x ∷ []) (y ∷ z ∷ []) ∙ append_assoc ss ps (x ∷ y ∷ z ∷ [])
+
+-- one place was taken, raised and released
+pub one_made : (u a b w : View) (n found position to : ℕ) → Did Create n 0 (held_by u.number) u a → to ≡ max found position → DidAt Raise n found to a b
+    → w ≡ with_step b (slot_step Release n (held_by b.number) 1) → Made u position n w
+one_made u a b w n found position to did is raised released = record {
+  never = did.1;
+  found = found;
+  follows = record {
+    above = subst (λ (f : Facts). f.top ≤ found) created_facts raised.1.above;
+    last = λ h. let held = did.1.named h in absurd (omega (arith, held));
+    alone = λ one low. raised.1.alone (ap (λ (z : View). z.seats) did.0 ∙ one) low ∙ ap (λ (f : Facts). f.position) created_facts;
+  };
+  steps = released ∙ ap (λ (z : View). with_step z (slot_step Release n (held_by z.number) 1)) (raised.0 ∙ ap (λ (t : ℕ). with_step a (slot_step Raise n found t)) is)
+      ∙ ap (λ (z : View). with_step (with_step z (slot_step Raise n found (max found position))) (slot_step Release n (held_by z.number) 1)) did.0
+      ∙ ap (λ (l : List SlotStep). record { number = u.number; seats = u.seats; steps = l }) (two u.steps _ _ _);
+}
+  where
+    created_facts : facts n a.steps ≡ facts_after (slot_step Create n 0 (held_by u.number)) (facts n u.steps)
+    created_facts = ap (λ (z : View). facts n z.steps) did.0 ∙ facts_here n u.steps (slot_step Create n 0 (held_by u.number)) refl
+
+    two : (ss : List SlotStep) (x y z : SlotStep) → ((ss ++ x ∷ []) ++ y ∷ []) ++ z ∷ [] ≡ ss ++ (x ∷ y ∷ z ∷ [])
+    two ss x y z = append_assoc (ss ++ x ∷ []) (y ∷ []) (z ∷ []) ∙ append_assoc ss (x ∷ []) (y ∷ z ∷ [])

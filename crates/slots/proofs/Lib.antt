@@ -1,4 +1,5 @@
 pub mod Facts
+pub mod Lines
 pub mod Places
 pub mod Moves
 pub mod Steps

@@ -175,6 +175,9 @@ is_made v p ss places s is = ⊎_elim
     (λ high. let none = (s.unused p high).0 in let word = held_word v p ss is in absurd (omega (arith, none, word)))
     (cases_lt p places)
 
+pub is_low : (v : View) (p : ℕ) (ss : List Slot) (places : ℕ) → StandsIn v ss places → IsHeldAt p v ss → p < 1024
+is_low v p ss places s is = let b = is_made v p ss places s is in let f = s.few in omega (arith, b, f)
+
 -- ---- After steps that change nothing.
 module _ (v w : View) (number : w.number ≡ v.number) (seats : w.seats ≡ v.seats) (same : (q : ℕ) → Alike (facts q v.steps) (facts q w.steps)) where
   each_same : (ss : List Slot) → AllByRecursion (Stands v) ss → AllByRecursion (Stands w) ss

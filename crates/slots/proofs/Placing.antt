@@ -31,10 +31,10 @@ map_snoc f (t ∷ ss) s = ap (λ l. f t ∷ l) (map_snoc f ss s)
 
 module _ (v w : View) (position p : ℕ) (d : Directory) (ss : List Slot) (places : ℕ) (named : IsNamed d ss places) (stands : StandsIn v ss places) (low : p < 16) (made : Created v position p w) where
   next : p ≡ places
-  next = is_next v w position p ss places stands made
+  next = is_next v w position p ss places stands low made
 
-  changes : Changes v w p (left v w position p ss places stands made)
-  changes = created_changes v w position p ss places stands made
+  changes : Changes v w p (left v w position p ss places stands low made)
+  changes = created_changes v w position p ss places stands low made
 
   elsewhere_in : (ts : List Slot) → AllByRecursion (λ (s : Slot). names.place_of d s.name ≡ Some s.place) ts → AllByRecursion (λ (s : Slot). s.place ≡ p → ⊥) ts
   elsewhere_in [] all = tt
@@ -65,7 +65,7 @@ module _ (v w : View) (position p : ℕ) (d : Directory) (ss : List Slot) (place
 
   stands_new : (s : Slot) → s.place ≡ p → s.confirmed ≡ position → Stands w s
   stands_new s is at = subst (λ (q : ℕ). (s.confirmed ≡ (facts q w.steps).position) × ((facts q w.steps).state ≡ cond (facts q w.steps).held (held_by w.number) 1)) (sym is) (
-    at ∙ sym (changes.here.position ∙ left_position v w position p ss places stands made),
+    at ∙ sym (changes.here.position ∙ left_position v w position p ss places stands low made),
     changes.here.state ∙ ap (λ (b : Bool). cond b (held_by w.number) 1) (sym changes.here.held),
   )
 
@@ -88,7 +88,7 @@ module _ (v w : View) (position p : ℕ) (d : Directory) (ss : List Slot) (place
 
     dropped : (r : Result (Unit {0}) SlotFault) → IsDrop r → Did Retire p 1 2 w z
     dropped (Ok x) is = is
-    dropped (Err e) is = absurd (not_free e is.0 is.1 (is.2.1.alone (changes.seats ∙ stands.alone) ∙ changes.here.state))
+    dropped (Err e) is = absurd (not_free e is.0 is.1 (is.2.1.alone (changes.seats ∙ stands.alone) (omega (arith, low)) ∙ changes.here.state))
 
     gone : Did Retire p 1 2 w z → Changes w z p (facts_after (slot_step Retire p 1 2) (facts p w.steps))
     gone did = one_step w z (slot_step Retire p 1 2) did.0

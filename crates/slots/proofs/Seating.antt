@@ -1,5 +1,5 @@
 -- The rule holds of a new table, and a seat more keeps it.
-use Rattle.std.proofs.Common.{◌≡◌, ℕ, zero, suc, ◌+◌, ◌<◌, ◌⊎◌, inl, inr, Bool, List, [], ◌∷◌, ◌++◌, length, replicate, get_or, set, sym, refl, ap, ◌∙◌, subst, arith, ⊎_elim, length-set, length-append, cond, ne_eqb}
+use Rattle.std.proofs.Common.{◌≡◌, ℕ, zero, suc, ◌+◌, ◌*◌, ◌/◌, ◌%◌, ◌<◌, ◌≤◌, ◌⊎◌, inl, inr, Bool, List, [], ◌∷◌, ◌++◌, length, replicate, get_or, set, sym, refl, ap, ◌∙◌, subst, arith, ⊎_elim, length-set, length-append, cond, ne_eqb}
 use Rattle.std.specs.Prelude.{slice_index}
 use Rattle.std.proofs.lemmas.Bool.{false≢true}
 use mathlib.Core.Option.{some, some-ne-none, some-injective}
@@ -9,8 +9,9 @@ use Rattle.atomic_table.proofs.Lists.{at_set}
 use Rattle.slots.specs.declared.step.View.{View}
 use Rattle.slots.specs.Standings.{held_by}
 use Rattle.slots.specs.Facts.{facts, no_facts}
-use Rattle.slots.specs.Rule.{Agrees, Leaves, Kept, first_view, one_more, newest, state_word, position_word}
+use Rattle.slots.specs.Rule.{Agrees, Leaves, Kept, first_view, generation_of, one_more, newest, state_at, state_word, position_word}
 use Rattle.slots.specs.Seats.{IsFresh}
+use Rattle.slots.proofs.Lines.{by_turn, no_more, not_yet, now}
 use Rattle.slots.proofs.Steps.{within}
 
 at_end : (l : List View) (a b : View) (j : ℕ) → get_elem? (l ++ a ∷ []) j ≡ some b → (get_elem? l j ≡ some b) ⊎ ((j ≡ length l) × (a ≡ b))
@@ -38,23 +39,42 @@ zeros_are_zero zero i = refl
 zeros_are_zero (suc n) zero = refl
 zeros_are_zero (suc n) (suc i) = zeros_are_zero n i
 
-pub opens : Kept (opening (zeros 128) [] first_view)
-opens = record {
-  wide = refl;
+zeros_are_many : (n : ℕ) → length (zeros n) ≡ n
+zeros_are_many zero = refl
+zeros_are_many (suc n) = ap suc (zeros_are_many n)
+
+-- a word that names no seat of this number from here on says of no place that it has it
+unnamed : (p w k : ℕ) → w % 4096 < 3 + k → k < 2048 → state_at p w ≡ held_by k → ⊥
+unnamed p w k small few is = by_turn p w
+    (λ less. let e = sym (not_yet p w less) ∙ is in omega (arith, e, few))
+    (λ more. let e = sym (no_more p w more) ∙ is in omega (arith, e))
+    (λ turn. let e = sym (now p w turn) ∙ is in omega (arith, e, small))
+
+-- in a new table a place of the first generation was never made
+pub never_made : (p w : ℕ) → p < 1024 → w ≡ 0 → state_at p w ≡ 0
+never_made p w low is = now p w (omega (arith, low, is)) ∙ omega (arith, is)
+
+pub opens_wide : (n : ℕ) → n ≡ 8192 → Kept (opening (zeros n) [] first_view)
+opens_wide n wide = record {
+  wide = zeros_are_many n ∙ wide;
   numbered = λ k u is. let e = first_is k u is in (ap (λ (w : View). w.number) (sym e.1) ∙ sym e.0, λ _. ap (λ (w : View). w.seats) e.1);
   first = λ k u is _. (first_is k u is).0;
-  names = λ p low. let z = zeros_are_zero 128 (state_word p) in omega arith;
-  places = λ p k u low is. subst (λ (w : View). Agrees (slice_index (zeros 128) (state_word p)) (slice_index (zeros 128) (position_word p)) k (facts p w.steps)) (first_is k u is).1
-      (knows_nothing _ _ k (λ e. let z = zeros_are_zero 128 (state_word p) in omega arith));
-  alone = λ _ p k u low is. subst (λ (w : View). Leaves (zeros 128) p w) (first_is k u is).1 (zeros_are_zero 128 (state_word p), zeros_are_zero 128 (position_word p));
+  few = omega arith;
+  names = λ p. let z = zeros_are_zero n (state_word p) in omega (arith, z);
+  places = λ p k u is. subst (λ (w : View). Agrees (state_at p (slice_index (zeros n) (state_word p))) (slice_index (zeros n) (position_word p)) k (facts p w.steps)) (first_is k u is).1
+      (knows_nothing _ _ k (unnamed p (slice_index (zeros n) (state_word p)) k (let z = zeros_are_zero n (state_word p) in omega (arith, z)) (let e = (first_is k u is).0 in omega (arith, e))));
+  alone = λ _ p k u low is. subst (λ (w : View). Leaves (zeros n) p w) (first_is k u is).1 (never_made p (slice_index (zeros n) (state_word p)) low (zeros_are_zero n (state_word p)), λ _. zeros_are_zero n (position_word p));
 }
   where
     first_is : (k : ℕ) (u : View) → get_elem? (first_view ∷ []) k ≡ some u → (k ≡ 0) × (first_view ≡ u)
     first_is zero u e = (refl, some-injective first_view u e)
     first_is (suc k) u e = absurd (some-ne-none u (sym e))
 
-pub splits : (id : ℕ) (v : View) → 0 < v.seats → Splits Kept id v (one_more v) (newest v)
-splits id v some_seat s kept at = record {
+pub opens : Kept (opening (zeros 8192) [] first_view)
+opens = opens_wide 8192 refl
+
+pub splits : (id : ℕ) (v : View) → 0 < v.seats → v.seats < 2048 → Splits Kept id v (one_more v) (newest v)
+splits id v some_seat few s kept at = record {
   wide = kept.wide;
   numbered = λ k u is. ⊎_elim
       (λ old. ⊎_elim
@@ -70,15 +90,16 @@ splits id v some_seat s kept at = record {
       (at_set s.views id k (one_more v) u old))
       (λ t. absurd (none_there u t.1 more))
       (at_end set_views (newest v) u k is);
-  names = λ p low. let n = kept.names p low in let l = longer in omega arith;
-  places = λ p k u low is. ⊎_elim
+  few = let l = longer in let c = count in omega (arith, l, c, few);
+  names = λ p. let n = kept.names p in let l = longer in omega (arith, n, l);
+  places = λ p k u is. ⊎_elim
       (λ old. ⊎_elim
-      (λ t. subst (λ (w : View). Agrees (slice_index s.words (state_word p)) (slice_index s.words (position_word p)) k (facts p w.steps)) t.1
-      (subst (λ (j : ℕ). Agrees (slice_index s.words (state_word p)) (slice_index s.words (position_word p)) j (facts p v.steps)) (sym t.0) (kept.places p id v low at)))
-      (λ t. kept.places p k u low t.1)
+      (λ t. subst (λ (w : View). Agrees (state_at p (slice_index s.words (state_word p))) (slice_index s.words (position_word p)) k (facts p w.steps)) t.1
+      (subst (λ (j : ℕ). Agrees (state_at p (slice_index s.words (state_word p))) (slice_index s.words (position_word p)) j (facts p v.steps)) (sym t.0) (kept.places p id v at)))
+      (λ t. kept.places p k u t.1)
       (at_set s.views id k (one_more v) u old))
-      (λ t. subst (λ (w : View). Agrees (slice_index s.words (state_word p)) (slice_index s.words (position_word p)) k (facts p w.steps)) t.1
-      (knows_nothing _ _ k (λ e. let n = kept.names p low in let is_last = t.0 in let l = same in omega arith)))
+      (λ t. subst (λ (w : View). Agrees (state_at p (slice_index s.words (state_word p))) (slice_index s.words (position_word p)) k (facts p w.steps)) t.1
+      (knows_nothing _ _ k (unnamed p (slice_index s.words (state_word p)) k (let n = kept.names p in let is_last = t.0 in let l = same in omega (arith, n, is_last, l)) (let c = count in let is_last = t.0 in let l = same in omega (arith, c, is_last, l, few)))))
       (at_end set_views (newest v) u k is);
   alone = λ one. let l = longer in let m = within s.views id v at in absurd (omega arith);
 }

@@ -1,7 +1,7 @@
 -- What a directory says: a place for each name, or none. Names are lists of bytes.
 use Rattle.std.specs.Prelude.{◌≡◌, ℕ, List, cond, Option, Some, None}
 use Rattle.std.specs.Str.{bytes_eq}
-use Rattle.std.specs.BTreeMap.{get_by_text}
+use Rattle.std.specs.BTreeMap.{btree_map_len, get_by_text}
 use Rattle.slots.specs.declared.directory.Directory.{Directory}
 use Rattle.slots.specs.declared.fault.SlotFault.{SlotFault}
 use Rattle.slots.specs.declared.fault.SlotFault.TheVariants.{Exists, Memory}
@@ -9,6 +9,10 @@ use Rattle.slots.specs.declared.fault.SlotFault.TheVariants.{Exists, Memory}
 -- the place of a name
 abbrev pub place_of : Directory → List ℕ → Option ℕ
 place_of d name = get_by_text d.places name
+
+-- how many names there are
+abbrev pub count_of : Directory → ℕ
+count_of d = btree_map_len d.places
 
 -- every name has the place that it had
 abbrev pub AreSame : Directory → Directory → Type 0

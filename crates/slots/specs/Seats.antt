@@ -18,7 +18,7 @@ Holds place v = (facts place v.steps).held ≡ true
 
 -- two seats that hold one place are one seat
 abbrev pub HasOneHolder : Slots → Type 0
-HasOneHolder s = (p j k : ℕ) (v w : View) → p < 16 → get_elem? s.views j ≡ some v → get_elem? s.views k ≡ some w → Holds p v → Holds p w → j ≡ k
+HasOneHolder s = (p j k : ℕ) (v w : View) → get_elem? s.views j ≡ some v → get_elem? s.views k ≡ some w → Holds p v → Holds p w → j ≡ k
 
 abbrev pub with_steps : View → List SlotStep → View
 with_steps v ss = record { number = v.number; seats = v.seats; steps = v.steps ++ ss }
@@ -59,7 +59,14 @@ pub record Created (old : View) (position place : ℕ) (new : View) : Type 0 whe
   pub follows : FollowsOn old place found
   pub steps : new ≡ with_steps old (steps_of_create place old.number founds found position)
 
--- a create found each of the 16 places taken
+-- a slot was made at this place, which had never been made
+pub record Made (old : View) (position place : ℕ) (new : View) : Type 0 where
+  pub never : StandsAs old place 0
+  pub found : ℕ
+  pub follows : FollowsOn old place found
+  pub steps : new ≡ with_steps old (steps_of_create place old.number [] found position)
+
+-- a create found each of the first 16 places taken
 pub record NoneLeft (old new : View) : Type 0 where
   pub founds : List ℕ
   pub count : length founds ≡ 16

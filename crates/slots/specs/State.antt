@@ -60,7 +60,7 @@ IsHeldAs is_held place slots = AllByRecursion (λ (s : NamedSlot). s.place ≡ p
 
 -- ---- What the calls do.
 
--- a new slot has the place behind those that are used up
+-- a new slot has the place after those that are used up
 abbrev pub slots_after_create : List ℕ → ℕ → SlotsState → SlotsState
 slots_after_create name position s = record { slots = s.slots ++ record { name = name; place = s.places; confirmed = position; is_held = false } ∷ []; places = s.places + 1 }
 

@@ -1,6 +1,6 @@
 //! The names of slots, each with its place in a table.
 
-ghost use Rattle.std.specs.Prelude.{◌≡◌, ℕ, List, IfErr, None, OnErr, OnOk, Some};
+ghost use Rattle.std.specs.Prelude.{◌≡◌, ◌+◌, ◌≤◌, ℕ, List, IfErr, None, OnErr, OnOk, Some};
 
 use crate::fault::SlotFault;
 use std::alloc::Global;
@@ -14,11 +14,12 @@ pub struct Directory {
 }
 
 impl Directory {
-    ghost use Rattle.slots.specs.Directories.{AreSame, ChangesOnly, adding_fault, place_of};
+    ghost use Rattle.slots.specs.Directories.{AreSame, ChangesOnly, adding_fault, count_of, place_of};
 
     /// A directory of no names. It takes no memory.
     pub fn new(alloc: Global) -> Self
-        ensures { (name : List ℕ) → place_of result name ≡ None }
+        ensures none { (name : List ℕ) → place_of result name ≡ None }
+        ensures count { count_of result ≡ 0 }
     {
         Directory {
             alloc,
@@ -33,12 +34,20 @@ impl Directory {
         self.places.get(name).copied()
     }
 
+    /// How many names there are.
+    pub fn count(&self) -> usize
+        ensures { result ≡ count_of self.now }
+    {
+        self.places.len()
+    }
+
     /// Gives a new name its place. A name that is there is L3.
     pub fn add(&mut self, name: &str, place: usize) -> Result<(), SlotFault>
         ensures new { OnOk result (place_of self.old name.now ≡ None) }
         ensures ok { OnOk result (ChangesOnly self.old self.new name.now (Some place)) }
         ensures err { OnErr result (AreSame self.old self.new) }
         ensures fault { IfErr result (λ e. e ≡ adding_fault (place_of self.old name.now)) }
+        ensures count { count_of self.new ≤ count_of self.old + 1 }
     {
         if self.places.contains_key(name) {
             return Err(SlotFault::Exists);
@@ -52,6 +61,7 @@ impl Directory {
     pub fn remove(&mut self, name: &str) -> Option<usize>
         ensures place { result ≡ place_of self.old name.now }
         ensures others { ChangesOnly self.old self.new name.now None }
+        ensures count { count_of self.new ≤ count_of self.old }
     {
         self.places.remove(name)
     }

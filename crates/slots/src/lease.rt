@@ -1,6 +1,7 @@
 //! The hold on a slot.
 
 ghost use Rattle.std.specs.Prelude.{◌<◌};
+ghost use Rattle.slots.specs.declared.table.TheConstants.{END_OF_PLACES};
 
 use crate::rule::SlotName;
 use std::marker::PhantomData;
@@ -9,5 +10,5 @@ use std::marker::PhantomData;
 pub struct Lease<L: SlotName> {
     pub place: usize,
     pub(crate) of: PhantomData<L>,
-    ghost inside: { place < 16 },
+    ghost inside: { place < END_OF_PLACES },
 }

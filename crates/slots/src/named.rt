@@ -105,6 +105,7 @@ impl<L: SlotName> NamedSlots<L> {
     /// Takes the slot of this name. It takes no memory. L1 where there is none, L2 where it is in use.
     pub fn claim(&mut self, name: &str) -> Result<Lease<L>, SlotFault>
         ensures ok { OnOk result (self.new ≡ slots_after_claim name.now self.old) }
+        ensures within { IfOk result (λ lease. lease.place < PLACES) }
         ensures only { IfOk result (λ lease. IsOnlyAt name.now lease.place self.old.slots) }
         ensures lease { IfOk result
             (λ lease. (place_of name.now self.new ≡ Some lease.place)

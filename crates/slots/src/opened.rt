@@ -1,9 +1,10 @@
 //! A table of slots before it is named.
 
-ghost use Rattle.std.specs.Prelude.{◌≡◌, ◌<◌, ◌++◌, ◌∷◌, All, IfOk, List, [], vec_len};
+ghost use Rattle.std.specs.Prelude.{◌≡◌, ◌<◌, ◌≤◌, ◌++◌, ◌∷◌, All, IfOk, List, [], vec_len};
 ghost use Rattle.slots.specs.Rule.{first_view};
 ghost use Rattle.slots.specs.Seats.{IsFresh, first_of};
 ghost use Rattle.slots.specs.declared.step.View.{View};
+ghost use Rattle.slots.specs.declared.table.TheConstants.{MOST_SEATS};
 
 use crate::rule::{Law, Seats, SlotName};
 use crate::seat::SlotSeat;
@@ -21,7 +22,7 @@ pub struct OpenedSlots {
     table: Table<(), View, (), Law, Global>,
     pub first: Seat<(), View>,
     ghost same: { first.table_id ≡ table.shared.table_id },
-    ghost wide: { table.shared.table_id.words ≡ 128 },
+    ghost wide: { table.shared.table_id.words ≡ 8192 },
     ghost fresh: { first.me ≡ (first_view, []) },
 }
 
@@ -42,6 +43,7 @@ impl OpenedSlots {
     ) -> Result<(SlotTable<L>, Vec<SlotSeat<L>>), AllocError>
         requires name { self.first.table_id ≡ L.table }
         requires seats { 0 < seats }
+        requires few { seats ≤ MOST_SEATS }
         ensures { IfOk result
             (λ made. (vec_len made.1 ≡ seats) × All (IsFresh seats) made.1.items
             × ((others : List View) × (made.1.items ≡ others ++ first_of seats ∷ []))) }

@@ -14,7 +14,7 @@ pub struct SlotSeat<L: SlotName> {
 }
 
 impl<L: SlotName> Model for SlotSeat<L> {
-    ghost use Rattle.std.specs.Prelude.{◌≡◌, ◌≤◌, ◌^◌, []};
+    ghost use Rattle.std.specs.Prelude.{◌≡◌, ◌<◌, []};
     ghost use Rattle.slots.specs.declared.step.View.{View};
 
     ghost Value = { View };
@@ -24,5 +24,5 @@ impl<L: SlotName> Model for SlotSeat<L> {
     ghost invariant = { λ s. (s.seat.table_id ≡ L.table)
         × (s.seat.me.0.number ≡ s.number)
         × (s.seat.me.1 ≡ [])
-        × (s.number ≤ 2 ^ 63) };
+        × (s.number < 2048) };
 }

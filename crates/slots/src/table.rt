@@ -1,10 +1,11 @@
 //! A table of slots, which threads share without a lock.
 
-ghost use Rattle.std.specs.Prelude.{◌≡◌, ℕ, ◌<◌, ◌≢◌, MatchOption, MatchResult, max};
+ghost use Rattle.std.specs.Prelude.{◌≡◌, ℕ, ◌<◌, ◌≢◌, ◌==◌, cond, MatchOption, MatchResult, max};
 ghost use Rattle.slots.specs.Rule.{slot_step, with_step};
-ghost use Rattle.slots.specs.Seats.{Created, Did, DidAt, Holds, IsRefusal, NoneLeft};
+ghost use Rattle.slots.specs.Seats.{Created, Did, DidAt, Holds, IsRefusal, Made, NoneLeft};
 ghost use Rattle.slots.specs.Standings.{held_by};
 ghost use Rattle.slots.specs.declared.fault.SlotFault.TheVariants.{NoPlace};
+ghost use Rattle.slots.specs.declared.table.TheConstants.{END_OF_PLACES, PLACES};
 ghost use Rattle.slots.specs.declared.step.SlotKind.TheVariants.{Claim, Create, Raise, Read, Release, Retire};
 
 use crate::fault::SlotFault;
@@ -13,38 +14,62 @@ use crate::rule::{Claims, Creates, Law, Raises, Reads, Releases, Retires, SlotNa
 use crate::seat::SlotSeat;
 use crate::standing::Standing;
 use crate::step::View;
-use crate::words::{position_word, state_word};
+use crate::words::{position_word, state_at, state_word, word_at, word_past};
 use atomic_table::Table;
 use std::alloc::Global;
 use std::marker::PhantomData;
 
-/// How many slots a table can have, dropped ones counted.
+/// How many places `SlotTable::create` tries.
 pub const PLACES: usize = 16;
 
+/// How many slots a table can have at once.
+pub const LINES: usize = 1024;
+
+/// Past all places: any number of slots one after the other.
+pub const END_OF_PLACES: usize = 2_305_843_009_213_693_952;
+
+/// How many seats a table can have.
+pub const MOST_SEATS: usize = 2048;
+
 /// The places of slots. Each call is made by a thread's own seat, takes no memory and waits for nobody.
+///
+/// A place is one slot's for good: once its slot is dropped, nothing is done there any more. The next slot on its line stands at
+/// another place, `LINES` further.
 #[derive(Drop)]
 pub struct SlotTable<L: SlotName> {
     pub(crate) table: Table<(), View, (), Law, Global>,
     pub(crate) of: PhantomData<L>,
     ghost named: { table.shared.table_id ≡ L.table },
-    ghost wide: { table.shared.table_id.words ≡ 128 },
+    ghost wide: { table.shared.table_id.words ≡ 8192 },
 }
 
 impl<L: SlotName> SlotTable<L> {
-    /// Takes the place if it was never made.
+    /// Takes the place if it was never made, and its line has come to it. How the place stood before.
+    fn try_new(&self, seat: &mut SlotSeat<L>, place: usize) -> u64
+        requires { place < END_OF_PLACES }
+        ensures { Did Create place result
+            (cond (result == 0) (held_by seat.old.number) result) seat.old seat.new }
+    {
+        let never = Standing::Never.word();
+        let mine = Standing::Held(seat.number).word();
+        let old = word_at(place, never);
+        let new = word_at(place, mine);
+        let word = state_word(place);
+        let shared = &self.table.shared;
+        let found = shared.compare_exchange::<Creates>(&mut seat.seat, word, old, new);
+        state_at(place, found)
+    }
+
+    /// Takes the place if it was never made, and its line has come to it.
     #[tactic(auto, using(crate::proofs::Holding::created_holds))]
     fn take_new(&self, seat: &mut SlotSeat<L>, place: usize) -> Option<Lease<L>>
-        requires { place < 16 }
+        requires { place < END_OF_PLACES }
         ensures { MatchOption result
             ((found : ℕ) × (found ≢ 0) × Did Create place found found seat.old seat.new)
             (λ lease. (lease.place ≡ place) × Holds place seat.new
             × Did Create place 0 (held_by seat.old.number) seat.old seat.new) }
     {
-        let never = Standing::Never.word();
-        let mine = Standing::Held(seat.number).word();
-        let word = state_word(place);
-        let shared = &self.table.shared;
-        let found = shared.compare_exchange::<Creates>(&mut seat.seat, word, never, mine);
+        let found = self.try_new(seat, place);
         match Standing::of_word(found) {
             Standing::Never => Some(Lease {
                 place,
@@ -57,7 +82,7 @@ impl<L: SlotName> SlotTable<L> {
     /// Makes a slot at the first place that was never made, and confirms this position. It is free then. With no such place it is L4.
     pub fn create(&self, seat: &mut SlotSeat<L>, position: u64) -> Result<usize, SlotFault>
         ensures { MatchResult result
-            (λ place. (place < 16) × Created seat.old position place seat.new)
+            (λ place. (place < PLACES) × Created seat.old position place seat.new)
             (λ e. (e ≡ NoPlace) × NoneLeft seat.old seat.new) }
     {
         for place in 0..PLACES {
@@ -70,20 +95,50 @@ impl<L: SlotName> SlotTable<L> {
         Err(SlotFault::NoPlace)
     }
 
+    /// Makes a slot at this place, and confirms this position, or the one of its line if that is further. It is free then. Where the
+    /// place was made already, or its line hasn't come to it, it is L4.
+    pub fn make(&self, seat: &mut SlotSeat<L>, place: usize, position: u64) -> Result<(), SlotFault>
+        requires { place < END_OF_PLACES }
+        ensures { MatchResult result (λ _. Made seat.old position place seat.new)
+            (λ e. (e ≡ NoPlace) × ((found : ℕ) × (found ≢ 0)
+            × Did Create place found found seat.old seat.new)) }
+    {
+        match self.take_new(seat, place) {
+            Some(mut lease) => {
+                let _confirmed = self.confirm(seat, &mut lease, position);
+                self.release(seat, lease);
+                Ok(())
+            }
+            None => Err(SlotFault::NoPlace),
+        }
+    }
+
+    /// Takes the place if it is free. How the place stood before.
+    fn try_claim(&self, seat: &mut SlotSeat<L>, place: usize) -> u64
+        requires { place < END_OF_PLACES }
+        ensures { Did Claim place result
+            (cond (result == 1) (held_by seat.old.number) result) seat.old seat.new }
+    {
+        let free = Standing::Free.word();
+        let mine = Standing::Held(seat.number).word();
+        let old = word_at(place, free);
+        let new = word_at(place, mine);
+        let word = state_word(place);
+        let shared = &self.table.shared;
+        let found = shared.compare_exchange::<Claims>(&mut seat.seat, word, old, new);
+        state_at(place, found)
+    }
+
     /// One compare and exchange, which takes a free place. A held one is L2, one that was never made or was dropped L1.
     #[tactic(auto, using(crate::proofs::Holding::claimed_holds))]
     pub fn claim(&self, seat: &mut SlotSeat<L>, place: usize) -> Result<Lease<L>, SlotFault>
-        requires { place < 16 }
+        requires { place < END_OF_PLACES }
         ensures { MatchResult result
             (λ lease. (lease.place ≡ place) × Holds place seat.new
             × Did Claim place 1 (held_by seat.old.number) seat.old seat.new)
             (λ e. (found : ℕ) × IsRefusal e found × Did Claim place found found seat.old seat.new) }
     {
-        let free = Standing::Free.word();
-        let mine = Standing::Held(seat.number).word();
-        let word = state_word(place);
-        let shared = &self.table.shared;
-        let found = shared.compare_exchange::<Claims>(&mut seat.seat, word, free, mine);
+        let found = self.try_claim(seat, place);
         let standing = Standing::of_word(found);
         match standing {
             Standing::Free => Ok(Lease {
@@ -127,24 +182,26 @@ impl<L: SlotName> SlotTable<L> {
     {
         let Lease { place, of: _ } = lease;
         let free = Standing::Free.word();
+        let new = word_at(place, free);
         let word = state_word(place);
         let shared = &self.table.shared;
-        shared.store::<Releases>(&mut seat.seat, word, free)
+        shared.store::<Releases>(&mut seat.seat, word, new)
     }
 
     /// One compare and exchange, which drops a free place. A held one is L2, one that was never made or was dropped L1.
     pub fn drop_slot(&self, seat: &mut SlotSeat<L>, place: usize) -> Result<(), SlotFault>
-        requires { place < 16 }
+        requires { place < END_OF_PLACES }
         ensures { MatchResult result (λ _. Did Retire place 1 2 seat.old seat.new)
             (λ e. (found : ℕ) × IsRefusal e found
             × Did Retire place found found seat.old seat.new) }
     {
         let free = Standing::Free.word();
-        let dropped = Standing::Dropped.word();
+        let old = word_at(place, free);
+        let new = word_past(place);
         let word = state_word(place);
         let shared = &self.table.shared;
-        let found = shared.compare_exchange::<Retires>(&mut seat.seat, word, free, dropped);
-        match Standing::of_word(found) {
+        let found = shared.compare_exchange::<Retires>(&mut seat.seat, word, old, new);
+        match Standing::of_word(state_at(place, found)) {
             Standing::Free => Ok(()),
             Standing::Never | Standing::Dropped => Err(SlotFault::Missing),
             Standing::Held(_) => Err(SlotFault::InUse),

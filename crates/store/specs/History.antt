@@ -93,7 +93,7 @@ is_any_held tables top history oids =
 
 -- UNDOING
 
--- the history without the changes of a transaction behind its first ones
+-- the history without the changes of a transaction after its first ones
 abbrev pub history_after_rollback : ℕ → ℕ → List Made → List Made
 history_after_rollback top n [] = []
 history_after_rollback top zero (m ∷ ms) = if is_top top m.top then history_after_rollback top zero ms else m ∷ history_after_rollback top zero ms

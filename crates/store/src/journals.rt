@@ -125,7 +125,7 @@ impl Journals {
         }
     }
 
-    /// Takes out the last change of a transaction, if it is behind the first `mark`.
+    /// Takes out the last change of a transaction, if it is after the first `mark`.
     pub fn pop_behind(&mut self, top: u32, mark: usize) -> Option<Items<Undo>>
         ensures behind { MatchOption result (length (journal_of top self.old) ≤ mark)
             (λ _. mark < length (journal_of top self.old)) }

@@ -12,10 +12,10 @@ use pqformat::{write_byte, write_int32};
 use std::marker::Model;
 use tables::{Column, MAX_ROW_LENGTH, Row, Value, write_value};
 
-/// The longest text of a key, in bytes: the values of the longest row, behind its table's OID.
+/// The longest text of a key, in bytes: the values of the longest row, after its table's OID.
 pub const MAX_KEY_LENGTH: usize = 8002;
 
-/// Stands behind the OID in the place of a whole table. No value begins with it.
+/// Stands after the OID in the place of a whole table. No value begins with it.
 const TABLE_TAG: u8 = 255;
 
 /// The text of a place, made without memory. Contracts see the text.

@@ -40,7 +40,7 @@ fn judge(prefix: &str, content: &[u8]) -> Result<(), StoreFault>
 }
 
 impl Store {
-    /// Makes a message, which is undone with the changes behind which it stands. S13, S6, S11 in this order.
+    /// Makes a message, which is undone with the changes after which it stands. S13, S6, S11 in this order.
     pub fn message(&mut self, top: u32, prefix: &str, content: &[u8]) -> Result<Change, StoreFault>
         ensures change { IfOk result
             (λ change. change

@@ -119,7 +119,7 @@ impl Slots {
         }
     }
 
-    /// Puts a row, or none, at a place, with its holder, and notes behind the others what stood there. Without memory
+    /// Puts a row, or none, at a place, with its holder, and notes after the others what stood there. Without memory
     /// nothing changes.
     pub fn note(
         &mut self,

@@ -82,7 +82,7 @@ impl Store {
         self.journals.mark(top)
     }
 
-    /// Undoes a transaction's changes behind the mark, the last first. It takes no memory.
+    /// Undoes a transaction's changes after the mark, the last first. It takes no memory.
     pub fn undo_to(&mut self, top: u32, mark: usize)
         ensures tables { self.new.tables ≡ self.old.tables }
         ensures keeps { (history : List Made) → Keeps self.old history →

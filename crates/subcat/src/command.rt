@@ -33,7 +33,7 @@ the slot unless there is one.
 
 With --output FILE it is printed at the end of FILE, and on the disk before it is acknowledged.
 FILE also says where to go on: a run that is killed and started again with the same words cuts off
-what it half wrote, begins behind the last transaction of FILE, and prints none twice. POSITION is
+what it half wrote, begins after the last transaction of FILE, and prints none twice. POSITION is
 where it begins if FILE is empty, and COUNT counts the transactions of FILE. FILE.system keeps which
 system FILE is of.
 
@@ -49,10 +49,18 @@ With --json each message is an object of JSON, as in wal2json's format-version 2
   {\"action\":\"C\",\"lsn\":\"0/1000030\",\"nextlsn\":\"0/1000050\",\"timestamp\":5}
   {\"summary\":{\"transactions\":1,\"changes\":1,\"lsn\":\"0/1000050\"}}
 
-each on one line. The last one stands where the stream ends, and the next run on FILE cuts it off.
-What FILE holds has to be in the same form.
+each on one line. Members are wal2json's but for these: timestamp counts microseconds since
+2000-01-01; identity is what was sent of the old row; lsn stands on each change too; typeoid is of a
+type whose name isn't known, contenthex of content that isn't UTF-8. The last line, summary, stands
+where the stream ends, and the next run on FILE cuts it off. What FILE holds has to be in the same
+form.
 
-It ends with 0 behind COUNT transactions, with 2 where the arguments are refused, and with 1
+A server that asks for a password gets the proof of PGPASSWORD, or else of the first line of the
+--password-file that fits, as in ~/.pgpass: hostname:port:database:username:password, where user and
+database are subcat, and * fits all. The proof is SCRAM-SHA-256, of a password in ASCII, and the
+server has to prove that it knows the password too. FILE may be read by its owner alone.
+
+It ends with 0 after COUNT transactions, with 2 where the arguments are refused, and with 1
 where the connection, the server, the output or memory fails, or the server is another system. What
 the server refused is printed as server: CODE text.";
 
@@ -64,6 +72,7 @@ pub struct Words<'a> {
     pub json: bool,
     pub messages: bool,
     pub output: Option<&'a str>,
+    pub password_file: Option<&'a str>,
     pub address: &'a str,
     pub slot: &'a str,
     pub position: &'a str,
@@ -71,7 +80,7 @@ pub struct Words<'a> {
     pub count: &'a str,
 }
 
-/// The words: those that stand alone, and those that have to be there. FILE stands apart.
+/// The words: those that stand alone, and those that have to be there. Files stand apart.
 const WORDS: [Word<'static>; 9] = [
     Word {
         name: "create",
@@ -140,11 +149,11 @@ fn read<'a>(alloc: Global, given: &'a [String]) -> Result<ArgMatches<'a>, Error>
 }
 
 fn command_of<'a>(alloc: Global) -> Result<Command<'a>, AllocError> {
-    with_output(alloc, SUBCAT.command(alloc)?)
+    with_files(alloc, SUBCAT.command(alloc)?)
 }
 
-fn with_output<'a>(alloc: Global, command: Command<'a>) -> Result<Command<'a>, AllocError> {
-    command.arg(output(alloc)?)
+fn with_files<'a>(alloc: Global, command: Command<'a>) -> Result<Command<'a>, AllocError> {
+    command.arg(output(alloc)?)?.arg(password_file(alloc)?)
 }
 
 fn output(alloc: Global) -> Result<Arg<'static>, AllocError> {
@@ -156,6 +165,14 @@ fn output(alloc: Global) -> Result<Arg<'static>, AllocError> {
         .requires_arg("follow")
 }
 
+fn password_file(alloc: Global) -> Result<Arg<'static>, AllocError> {
+    let arg = Arg::new(alloc, "password-file")
+        .long("password-file")
+        .value_name("FILE")
+        .action(ArgAction::Set);
+    Ok(arg.help("Prove the password that FILE has, where the server asks for one"))
+}
+
 /// All but the options are required, so they are there.
 fn words_in<'a>(matches: &ArgMatches<'a>) -> Words<'a> {
     Words {
@@ -164,6 +181,7 @@ fn words_in<'a>(matches: &ArgMatches<'a>) -> Words<'a> {
         json: matches.get_flag("json"),
         messages: matches.get_flag("messages"),
         output: matches.get_str("output"),
+        password_file: matches.get_str("password-file"),
         address: matches.get_str("ADDR").unwrap_or(""),
         slot: matches.get_str("SLOT").unwrap_or(""),
         position: matches.get_str("POSITION").unwrap_or(""),

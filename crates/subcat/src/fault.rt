@@ -1,5 +1,6 @@
 //! Why the program did not follow a slot, and with which status it then ends.
 
+use crate::password::PasswordFault;
 use command_line::{Ending, WordsFault};
 use follower::FollowFault;
 use std::alloc::AllocError;
@@ -28,6 +29,8 @@ pub enum Fault {
     Connect(io::Error),
     #[error("{0}")]
     Follow(FollowFault),
+    #[error("{0}")]
+    Password(#[from] PasswordFault),
     #[error("out of memory")]
     Memory(#[from(alloc)] AllocError),
 }
@@ -38,6 +41,7 @@ impl Ending for Fault {
     fn status(&self) -> u8 {
         match self {
             Fault::Position | Fault::Count => 2,
+            Fault::Password(fault) if fault.is_bad_input() => 2,
             Fault::Output(_)
             | Fault::Journal(_)
             | Fault::JournalInUse
@@ -45,6 +49,7 @@ impl Ending for Fault {
             | Fault::System(_)
             | Fault::Connect(_)
             | Fault::Follow(_)
+            | Fault::Password(_)
             | Fault::Memory(_) => 1,
             Fault::Words(fault) => fault.status(),
         }

@@ -2,7 +2,7 @@
 
 use crate::fault::Fault;
 use crate::system_file::SystemFile;
-use follower::{Form, Kept, Output};
+use follower::{Form, Output, ResumePoint};
 use std::alloc::Global;
 use std::fs::{File, Metadata, OpenOptions, TryLockError, metadata};
 use std::io;
@@ -29,7 +29,7 @@ impl<'a> Journal<'a> {
         alloc: Global,
         path: &'a str,
         form: Form,
-    ) -> Result<(Self, Kept), Fault> {
+    ) -> Result<(Self, ResumePoint), Fault> {
         let system = SystemFile::beside(rt, alloc, path)?;
         let mut options = OpenOptions::new();
         options.read(true).append(true).create(true);
@@ -45,7 +45,7 @@ impl<'a> Journal<'a> {
     }
 
     /// The system that it holds transactions of, where it holds some and this is known.
-    pub fn system(&self, kept: &Kept) -> Result<Option<String>, Fault> {
+    pub fn system(&self, kept: &ResumePoint) -> Result<Option<String>, Fault> {
         if kept.transactions == 0 {
             return Ok(None);
         }
@@ -73,14 +73,14 @@ fn is_same(own: &Metadata, named: &Metadata) -> bool {
 }
 
 /// Takes the file for this run, cuts off what was half written, and answers what it holds.
-fn taken(alloc: Global, file: &File, form: Form) -> Result<Kept, Fault> {
+fn taken(alloc: Global, file: &File, form: Form) -> Result<ResumePoint, Fault> {
     file.try_lock().map_err(not_locked)?;
     let kept = read(alloc, file, form)?;
     cut_off(file, &kept)?;
     Ok(kept)
 }
 
-fn cut_off(file: &File, kept: &Kept) -> Result<(), Fault> {
+fn cut_off(file: &File, kept: &ResumePoint) -> Result<(), Fault> {
     if kept.is_foreign {
         return Err(Fault::ForeignJournal);
     }
@@ -95,9 +95,9 @@ fn not_locked(fault: TryLockError) -> Fault {
 }
 
 /// Reads it from its front to its end.
-fn read(alloc: Global, file: &File, form: Form) -> Result<Kept, Fault> {
+fn read(alloc: Global, file: &File, form: Form) -> Result<ResumePoint, Fault> {
     let mut lines = BufReader::new(alloc, file).map_err(Fault::Journal)?;
-    let mut kept = Kept::new();
+    let mut kept = ResumePoint::new();
     let taken = take_lines(alloc, form, &mut lines, &mut kept);
     drop(lines);
     taken?;
@@ -108,7 +108,7 @@ fn take_lines<R: BufRead>(
     alloc: Global,
     form: Form,
     lines: &mut R,
-    kept: &mut Kept,
+    kept: &mut ResumePoint,
 ) -> Result<(), Fault> {
     let mut line = Vec::new(alloc);
     for _ in 0..u64::MAX {
@@ -126,7 +126,7 @@ fn take_line<R: BufRead>(
     form: Form,
     lines: &mut R,
     line: &mut Vec<u8>,
-    kept: &mut Kept,
+    kept: &mut ResumePoint,
 ) -> Result<bool, Fault> {
     let length = lines.read_until(b'\n', line).map_err(Fault::Journal)?;
     if length == 0 {

@@ -3,9 +3,10 @@
 use crate::fault::Fault;
 use crate::journal::Journal;
 use crate::printout::Printout;
-use follower::{FollowFault, Kept, Options, Output, Pauses, Subscription, resume};
+use follower::{FollowFault, Options, Output, Pauses, ResumePoint, Subscription, resume};
 use std::alloc::Global;
 use std::net::{Net, SocketAddr, TcpListener, TcpStream};
+use std::random::RandomSource;
 use std::sync::Wait;
 use std::thread;
 use std::time::{Clock, Duration};
@@ -15,19 +16,16 @@ use std::time::{Clock, Duration};
 const PATIENCE: u64 = 30;
 
 /// Follows into the standard output.
-pub fn keep_printing<N: Net<Listener = TcpListener, Stream = TcpStream> + Wait + Clock>(
-    rt: &HostRuntime,
-    net: &N,
-    address: SocketAddr,
-    options: &Options,
-) -> Result<(), Fault> {
+pub fn keep_printing<
+    N: Net<Listener = TcpListener, Stream = TcpStream> + Wait + Clock + RandomSource,
+>(rt: &HostRuntime, net: &N, address: SocketAddr, options: &Options) -> Result<(), Fault> {
     let mut subscription = Subscription::new(rt.alloc(), options);
     let mut output = Printout::new(rt);
     keep_following(rt, net, address, options, &mut subscription, &mut output)
 }
 
 /// Follows into a file, from where it ends. What it holds counts.
-pub fn keep_in<N: Net<Listener = TcpListener, Stream = TcpStream> + Wait + Clock>(
+pub fn keep_in<N: Net<Listener = TcpListener, Stream = TcpStream> + Wait + Clock + RandomSource>(
     rt: &HostRuntime,
     net: &N,
     address: SocketAddr,
@@ -40,9 +38,12 @@ pub fn keep_in<N: Net<Listener = TcpListener, Stream = TcpStream> + Wait + Clock
     keep_following(rt, net, address, options, &mut subscription, &mut journal)
 }
 
-/// Goes on behind what the output holds, over one connection after the other, until all is printed. Each that was lost is told, with
-/// the pause behind it.
-fn keep_following<N: Net<Listener = TcpListener, Stream = TcpStream> + Wait + Clock, W: Output>(
+/// Goes on after what the output holds, over one connection after the other, until all is printed. Each that was lost is told, with
+/// the pause after it.
+fn keep_following<
+    N: Net<Listener = TcpListener, Stream = TcpStream> + Wait + Clock + RandomSource,
+    W: Output,
+>(
     rt: &HostRuntime,
     net: &N,
     address: SocketAddr,
@@ -67,7 +68,10 @@ fn keep_following<N: Net<Listener = TcpListener, Stream = TcpStream> + Wait + Cl
     unreachable!()
 }
 
-fn follow_once<N: Net<Listener = TcpListener, Stream = TcpStream> + Wait + Clock, W: Output>(
+fn follow_once<
+    N: Net<Listener = TcpListener, Stream = TcpStream> + Wait + Clock + RandomSource,
+    W: Output,
+>(
     net: &N,
     alloc: Global,
     address: SocketAddr,

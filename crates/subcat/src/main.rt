@@ -1,11 +1,18 @@
-//! `subcat [--create] [--json] [--messages] [--follow [--output FILE]] ADDR SLOT POSITION PUBLICATIONS COUNT` follows a slot of a
-//! publisher, and prints each message of its stream, or, over lost connections, each transaction once.
+//! `subcat [--create] [--json] [--messages] [--password-file FILE] [--follow [--output FILE]] ADDR SLOT POSITION PUBLICATIONS COUNT`
+//! follows a slot of a publisher, and prints each message of its stream, or, over lost connections, each transaction once.
+//!
+//! `command.rt` reads the command line, `printout.rt` follows once, `keeping.rt` follows for good, with a `Journal` as its
+//! output, `password.rt` finds a password.
+//!
+//! Read `main.rt`, `keeping.rt`, `journal.rt`. One contract is used: that of `follower::resume`, over an output that is a file.
 #![tactic(auto)]
 
 mod command;
 mod fault;
 mod journal;
 mod keeping;
+mod password;
+mod password_file;
 mod printout;
 mod system_file;
 
@@ -14,12 +21,14 @@ use command_line::{address_of, arguments_of, count_of, ended};
 use fault::Fault;
 use follower::{Form, Options, follow};
 use keeping::{keep_in, keep_printing};
+use password::password_of;
 use printout::Printout;
 use replcmd::parse_position;
 use std::alloc::Global;
 use std::io::{BufWriter, Write};
 use std::net::{Net, SocketAddr, TcpListener, TcpStream};
 use std::process::ExitCode;
+use std::random::RandomSource;
 use std::sync::Wait;
 use std::time::Clock;
 
@@ -28,7 +37,7 @@ fn main(rt: HostRuntime) -> ExitCode {
 }
 
 /// The runtime has the words and the output, and `net` the socket.
-fn run<N: Net<Listener = TcpListener, Stream = TcpStream> + Wait + Clock>(
+fn run<N: Net<Listener = TcpListener, Stream = TcpStream> + Wait + Clock + RandomSource>(
     rt: &HostRuntime,
     net: &N,
 ) -> Result<(), Fault> {
@@ -36,14 +45,15 @@ fn run<N: Net<Listener = TcpListener, Stream = TcpStream> + Wait + Clock>(
     run_called(rt, net, arguments.as_slice())
 }
 
-fn run_called<N: Net<Listener = TcpListener, Stream = TcpStream> + Wait + Clock>(
+fn run_called<N: Net<Listener = TcpListener, Stream = TcpStream> + Wait + Clock + RandomSource>(
     rt: &HostRuntime,
     net: &N,
     arguments: &[String],
 ) -> Result<(), Fault> {
     let words = words_of(rt.alloc(), arguments)?;
     let address = address_of(words.address)?;
-    let options = options_of(&words)?;
+    let password = password_of(rt, words.password_file, words.address)?;
+    let options = options_of(&words, password.as_ref().map(|p| p.as_slice()))?;
     match words.output {
         Some(path) => keep_in(rt, net, address, &options, path),
         None if words.follow => keep_printing(rt, net, address, &options),
@@ -51,7 +61,7 @@ fn run_called<N: Net<Listener = TcpListener, Stream = TcpStream> + Wait + Clock>
     }
 }
 
-fn follow_at<N: Net<Listener = TcpListener, Stream = TcpStream> + Wait + Clock>(
+fn follow_at<N: Net<Listener = TcpListener, Stream = TcpStream> + Wait + Clock + RandomSource>(
     rt: &HostRuntime,
     net: &N,
     address: SocketAddr,
@@ -61,7 +71,10 @@ fn follow_at<N: Net<Listener = TcpListener, Stream = TcpStream> + Wait + Clock>(
     follow_into(net, rt.alloc(), address, options, &mut output)
 }
 
-fn follow_into<N: Net<Listener = TcpListener, Stream = TcpStream> + Wait + Clock, W: Write>(
+fn follow_into<
+    N: Net<Listener = TcpListener, Stream = TcpStream> + Wait + Clock + RandomSource,
+    W: Write,
+>(
     net: &N,
     alloc: Global,
     address: SocketAddr,
@@ -72,7 +85,7 @@ fn follow_into<N: Net<Listener = TcpListener, Stream = TcpStream> + Wait + Clock
     follow(net, alloc, &mut socket, options, output).map_err(Fault::Follow)
 }
 
-fn options_of<'a>(words: &Words<'a>) -> Result<Options<'a>, Fault> {
+fn options_of<'a>(words: &Words<'a>, password: Option<&'a [u8]>) -> Result<Options<'a>, Fault> {
     Ok(Options {
         create: words.create,
         slot: words.slot,
@@ -81,6 +94,7 @@ fn options_of<'a>(words: &Words<'a>) -> Result<Options<'a>, Fault> {
         messages: words.messages,
         count: count_in(words.count)?,
         form: if words.json { Form::Json } else { Form::Text },
+        password,
     })
 }
 

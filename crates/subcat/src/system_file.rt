@@ -5,7 +5,7 @@ use std::fs::{File, read_to_string};
 use std::io;
 use std::io::{ErrorKind, Write};
 
-/// What its name ends with, behind that of the output.
+/// What its name ends with, after that of the output.
 const ENDING: &str = ".system";
 
 /// The system's name on a line. Without the line's end it was half written, and says nothing: the output held no transaction then.

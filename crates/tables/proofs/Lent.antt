@@ -1,4 +1,4 @@
--- The values of a row that is read where it lies: those that were read, and behind them those of a row.
+-- The values of a row that is read where it lies: those that were read, and after them those of a row.
 use Rattle.std.proofs.Common.{◌≡◌, ℕ, zero, suc, ◌+◌, ◌-◌, ◌<◌, ◌≤◌, List, [], ◌∷◌, ◌++◌, Some, length, map, take, set, slice_index_or, slice_get, Result, Ok, Err, inr, refl, sym, ap, subst, ◌∙◌, arith}
 use Rattle.std.proofs.lemmas.List.{append-nil, take_more_set, map-append, length-append}
 use Rattle.std.specs.Int.{w16}
@@ -91,7 +91,7 @@ abbrev left_in : Result (List Value × List ℕ) BodyFault → ℕ
 left_in (Ok read) = length read.1
 left_in (Err fault) = 0
 
--- what was read of the bytes: a count, so many values, and none of another row behind them
+-- what was read of the bytes: a count, so many values, and none of another row after them
 module _ (bytes start after end rest : List ℕ) (u n : ℕ) (room : List ValueRef) (fits : IsBytes bytes) (whole : start ≡ bytes) (counted : number_at w16 start ≡ Some (u, after)) (same : n ≡ u)
     (read : repeat_at value_at n after ≡ Ok (map value_of (take n room), end)) (behind : rest ≡ end) where
   pub is_row : row_at bytes ≡ Ok (map value_of (take n room), rest)

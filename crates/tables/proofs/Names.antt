@@ -5,7 +5,7 @@ use Rattle.std.proofs.Math.Seq.{take-append_seam}
 use Rattle.std.specs.Str.{bytes_eq}
 use Rattle.std.proofs.lemmas.Slice.Eq.{bytes_eq-Decides}
 
--- behind the same beginning, what is left decides
+-- after the same beginning, what is left decides
 pub bytes_eq-after : (front a b : List ℕ) → bytes_eq (front ++ a) (front ++ b) ≡ bytes_eq a b
 bytes_eq-after [] a b = refl
 bytes_eq-after (x ∷ front) a b = rw (eq-eqb x x refl) (bytes_eq-after front a b)

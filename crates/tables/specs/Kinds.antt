@@ -6,6 +6,10 @@ use Rattle.std.specs.Option.{ok_or}
 use Rattle.std.specs.Int.{w16, w32, w64, w128, cast_unsigned, from_be_bytes, to_be_bytes}
 use Rattle.std.specs.Str.{bytes_eq, is_utf8}
 use Rattle.uuid.specs.Text.{parsed_hyphenated}
+use Rattle.data_types.specs.declared.data_type.DataType.{DataType}
+use Rattle.data_types.specs.DataTypes.{has_one_text}
+use Rattle.data_types.specs.Names.{type_named}
+use Rattle.data_types.specs.Sent.{is_sent_text}
 use Rattle.pqformat.specs.Fields.{byte_at, bytes_at, number_at, int16, int32, int64}
 use Rattle.pqformat.specs.Steps.{◌>>=◌, letter_at, signed_at}
 use Rattle.tables.specs.declared.kinds.Kind.{Kind}
@@ -27,7 +31,7 @@ kind_named name =
     else if bytes_eq name (codes "int8") then Some kinds.Int8
     else if bytes_eq name (codes "text") then Some kinds.Text
     else if bytes_eq name (codes "uuid") then Some kinds.Uuid
-    else None
+    else option_map kinds.AsText (type_named name)
 
 -- VALUES
 
@@ -69,6 +73,11 @@ abbrev pub is_uuid : Value → Bool
 is_uuid (values.Uuid n) = true
 is_uuid value = false
 
+-- the text is one that PostgreSQL sends of a value of this type
+abbrev pub is_sent : DataType → Value → Bool
+is_sent data_type (values.Text text) = is_sent_text data_type text
+is_sent data_type value = false
+
 abbrev pub is_of_kind : Kind → Value → Bool
 is_of_kind kinds.Bool value = is_bool value
 is_of_kind kinds.Int2 value = is_int2 value
@@ -76,6 +85,12 @@ is_of_kind kinds.Int4 value = is_int4 value
 is_of_kind kinds.Int8 value = is_int8 value
 is_of_kind kinds.Text value = is_text value
 is_of_kind kinds.Uuid value = is_uuid value
+is_of_kind (kinds.AsText data_type) value = is_sent data_type value
+
+-- values of the kind are equal only if they are the same here
+abbrev pub identifies : Kind → Bool
+identifies (kinds.AsText data_type) = has_one_text data_type
+identifies kind = true
 
 -- the UUID of a text: 32 hex digits, in either case, of which 8, 4, 4, 4 and 12 stand between hyphens
 unfoldable pub uuid_of_text : List ℕ → Option ℕ
@@ -141,6 +156,6 @@ tagged_at tag bytes =
     else (if tag == UUID_TAG then uuid_at bytes >>= (λ n. Ok (values.Uuid n.0, n.1))
     else Err UnknownTag))))))
 
--- the value at the front of the bytes, and what stands behind it
+-- the value at the front of the bytes, and what stands after it
 unfoldable pub value_at : List ℕ → Result (Value × List ℕ) BodyFault
 value_at bytes = short (byte_at bytes) >>= λ tag. tagged_at tag.0 tag.1

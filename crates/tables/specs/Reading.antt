@@ -56,14 +56,14 @@ oids_at bytes = short (number_at w16 bytes) >>= λ n. repeat_at oid_at n.0 n.1
 unfoldable pub update_at : List ℕ → Result (((ℕ × List Value) × List Value) × List ℕ) BodyFault
 update_at bytes = insert_at bytes >>= λ m. row_at m.1 >>= λ row. Ok ((m.0, row.0), row.1)
 
--- a text behind its length in two bytes
+-- a text after its length in two bytes
 abbrev pub prefix_sized_at : List ℕ → Result (List ℕ × List ℕ) BodyFault
 prefix_sized_at bytes = short (number_at w16 bytes) >>= λ n. short (bytes_at n.0 n.1)
 
 unfoldable pub prefix_at : List ℕ → Result (List ℕ × List ℕ) BodyFault
 prefix_at bytes = prefix_sized_at bytes >>= λ text. if is_utf8 text.0 then Ok text else Err BadText
 
--- a prefix, and a content behind its length in four bytes
+-- a prefix, and a content after its length in four bytes
 unfoldable pub message_at : List ℕ → Result (Message × List ℕ) BodyFault
 message_at bytes = prefix_at bytes >>= λ prefix. sized_at prefix.1 >>= λ content. Ok (record { prefix = prefix.0; content = content.0 }, content.1)
 
@@ -133,7 +133,7 @@ pub record HoldsMessage (bytes : List ℕ) : Type 0 where
 abbrev pub HoldsPart : List ℕ → Type 0
 HoldsPart bytes = HoldsRow bytes ⊎ (HoldsNewRow bytes ⊎ (HoldsOid bytes ⊎ HoldsMessage bytes))
 
--- the same said of the reader: a row, or a row behind an OID, of which the first value is read
+-- the same said of the reader: a row, or a row after an OID, of which the first value is read
 abbrev pub RowHasValue : List ℕ → Type 0
 RowHasValue bytes = IsSomeAnd (number_at w16 bytes) (λ n. (0 < n.0) × IsOk (value_at n.1))
 
@@ -167,7 +167,7 @@ abbrev pub Fails : {Y : Type 0} → BodyFault → Result Y BodyFault → Type 0
 Fails Memory read = Unit {0}
 Fails fault read = read ≡ Err fault
 
--- the value and what is left behind it, or the fault, unless memory was refused
+-- the value and what is left after it, or the fault, unless memory was refused
 abbrev pub Gives : {X : Type 0} → Result X BodyFault → List ℕ → Result (X × List ℕ) BodyFault → Type 0
 Gives (Ok x) rest read = read ≡ Ok (x, rest)
 Gives (Err fault) rest read = Fails fault read

@@ -1,6 +1,6 @@
 -- How the log keeps a change: a row is a count of two bytes and its values. The body of a change is a tag, the table's OID and its
--- rows, of an update the old one first; of a truncate a count of two bytes and the OIDs; of a message its prefix behind a length of
--- two bytes, and its content behind one of four.
+-- rows, of an update the old one first; of a truncate a count of two bytes and the OIDs; of a message its prefix after a length of
+-- two bytes, and its content after one of four.
 use Rattle.std.specs.Prelude.{ℕ, ◌≤◌, List, ◌∷◌, ◌++◌, length}
 use Rattle.std.specs.List.{flat_map}
 use Rattle.pqformat.specs.Fields.{int16, int32}

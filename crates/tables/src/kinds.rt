@@ -7,11 +7,13 @@ ghost use Rattle.pqformat.specs.Steps.{letter_at, signed_at};
 ghost use Rattle.pqformat.specs.Writing.{FitsRoom, Writes};
 ghost use Rattle.tables.specs.declared.fault.BodyFault.TheVariants.{Short, BadBool, Memory};
 ghost use Rattle.tables.specs.declared.row.TheConstants.{MAX_ROW_LENGTH};
-ghost use Rattle.tables.specs.Kinds.{IsValue, bool_of, has_no_zero, is_of_kind, kind_named, spell_value, text_at, uuid_at, uuid_bytes, uuid_of_text, value_at, value_of};
+ghost use Rattle.tables.specs.Kinds.{IsValue, bool_of, has_no_zero, identifies, is_of_kind, is_sent, kind_named, spell_value, text_at, uuid_at, uuid_bytes, value_at, value_of};
 ghost use Rattle.tables.specs.Reading.{Gives};
 
 use crate::fault::BodyFault;
+use crate::uuids::halves_of_uuid;
 use bytes::{BufMut, BytesMut};
+use data_types::DataType;
 use pqformat::{
     Cursor, Text, put_int16, put_int32, put_int64, utf8_of, write_byte, write_bytes, write_int16,
     write_int32, write_int64,
@@ -28,6 +30,8 @@ pub enum Kind {
     Int8,
     Text,
     Uuid,
+    /// A type whose values are kept as the texts that PostgreSQL sends of them.
+    AsText(DataType),
 }
 
 /// What a row holds in one column; a UUID is the number of its bytes, the highest first.
@@ -82,7 +86,7 @@ impl Kind {
             "int8" => Some(Kind::Int8),
             "text" => Some(Kind::Text),
             "uuid" => Some(Kind::Uuid),
-            _ => None,
+            _ => Some(Kind::AsText(DataType::named(name)?)),
         }
     }
 
@@ -97,7 +101,28 @@ impl Kind {
             Kind::Int8 => matches!(value, ValueRef::Int8(_)),
             Kind::Text => matches!(value, ValueRef::Text(text) if is_without_zero(text)),
             Kind::Uuid => matches!(value, ValueRef::Uuid(_, _)),
+            Kind::AsText(data_type) => is_sent(data_type, value),
         }
+    }
+
+    /// Whether two values are equal only if they are the same here, so that a key may have such a column.
+    pub fn identifies(self) -> bool
+        ensures { result ≡ identifies self }
+    {
+        match self {
+            Kind::AsText(data_type) => data_type.has_one_text(),
+            Kind::Bool | Kind::Int2 | Kind::Int4 | Kind::Int8 | Kind::Text | Kind::Uuid => true,
+        }
+    }
+}
+
+/// Whether the value is a text that PostgreSQL sends of one of this type.
+fn is_sent(data_type: DataType, value: ValueRef<'_>) -> bool
+    ensures { result ≡ is_sent data_type (value_of value.entry) }
+{
+    match value {
+        ValueRef::Text(text) => data_type.is_sent(text),
+        _ => false,
     }
 }
 
@@ -343,33 +368,6 @@ fn uuid_in(cursor: &mut Cursor<'_>) -> Result<u128, BodyFault>
     match Uuid::from_slice(bytes) {
         Ok(uuid) => Ok(uuid.as_u128()),
         Err(_) => Err(BodyFault::Short),
-    }
-}
-
-fn halves_of_uuid(n: u128) -> (u64, u64)
-    ensures { result.0 * 2 ^ 64 + result.1 ≡ n }
-{
-    ((n / (1 << 64)) as u64, (n % (1 << 64)) as u64)
-}
-
-/// The UUID of these halves.
-pub fn uuid_of_halves(high: u64, low: u64) -> u128
-    ensures { result ≡ high * 2 ^ 64 + low }
-{
-    u128::from(high) * (1 << 64) + u128::from(low)
-}
-
-/// The UUID of a text in its plain form, as `6ba7b810-9dad-11d1-80b4-00c04fd430c8`, in either case.
-#[tactic(auto, unfolding(crate::specs::Kinds::uuid_of_text))]
-pub fn uuid_of_text(text: &[u8]) -> Option<u128>
-    ensures { result ≡ uuid_of_text text.now }
-{
-    if text.len() != 36 {
-        return None;
-    }
-    match Uuid::try_parse_ascii(text) {
-        Ok(uuid) => Some(uuid.as_u128()),
-        Err(_) => None,
     }
 }
 

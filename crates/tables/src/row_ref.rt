@@ -23,7 +23,7 @@ pub struct RowRef<'a> {
     /// Those that were read from a body.
     read: [ValueRef<'a>; MAX_COLUMNS],
     count: usize,
-    /// Those of a row, behind them. There are values of one kind alone.
+    /// Those of a row, after them. There are values of one kind alone.
     values: &'a [Value],
 }
 
@@ -62,7 +62,7 @@ impl<'a> RowRef<'a> {
         }
     }
 
-    /// Becomes the row at the front of the bytes, and answers what stands behind it. None where no row is spelled there, or one
+    /// Becomes the row at the front of the bytes, and answers what stands after it. None where no row is spelled there, or one
     /// that no table has: of over 64 values, or of over 8,000 bytes.
     #[tactic(auto, unfolding(crate::specs::Reading::row_at))]
     pub fn read(&mut self, bytes: &'a [u8]) -> Option<&'a [u8]>

@@ -1,9 +1,10 @@
 //! A server, and beside it whoever talks to it.
 
-use hub::{Gate, Hub, serve};
+use hub::{Hub, ServerObserver, serve};
 use shared_log::LogName;
 use slots::SlotName;
 use std::net::{Net, SocketAddr, TcpListener, TcpStream};
+use std::random::RandomSource;
 use std::sync::Wait;
 use std::test::Fail;
 use std::thread::Threads;
@@ -15,13 +16,18 @@ pub fn serve_beside<L, R, G, C, T>(
     rt: &R,
     hub: &Hub<L>,
     connections: u32,
-    gate: &G,
+    observer: &G,
     clients: C,
 ) -> Result<T, Fail>
 where
     L: LogName + SlotName + Send + Sync,
-    R: Net<Listener = TcpListener, Stream = TcpStream> + Threads + Wait + Clock + Sync,
-    G: Gate + Sync,
+    R: Net<Listener = TcpListener, Stream = TcpStream>
+        + Threads
+        + Wait
+        + Clock
+        + RandomSource
+        + Sync,
+    G: ServerObserver + Sync,
     C: FnOnce(SocketAddr) -> io::Result<T>,
     T: Drop,
     requires { C.IsAlwaysCallable clients }
@@ -31,7 +37,7 @@ where
     let bound = &listener;
     let (served, answered) = thread::join(
         rt,
-        || serve(rt, bound, hub, connections, gate),
+        || serve(rt, bound, hub, connections, observer),
         || clients(address),
     );
     served?;

@@ -23,10 +23,10 @@ fn bytes_one_by_one(rt: HostRuntime) -> Result<(), Fail> {
 pub fn drain_by_bytes<L: LogName, R: Wait + Abort>(
     rt: &R,
     alloc: Global,
-    desk: &Mutex<Publisher<L>>,
+    backend: &Mutex<Publisher<L>>,
     reader: &mut LogReader<L>,
 ) -> Result<(), Fail> {
-    commit_under_lock(rt, alloc, desk, 1, "ab", 7)?;
+    commit_under_lock(rt, alloc, backend, 1, "ab", 7)?;
     feed_and_drain(rt, alloc, reader)
 }
 

@@ -6,7 +6,7 @@ use std::sync::Arc;
 use txlog::Receipt;
 use wal::Record;
 
-/// Fetches up to so many records behind those that it fetched before.
+/// Fetches up to so many records after those that it fetched before.
 pub fn fetch_more<L: LogName>(
     alloc: Global,
     reader: &mut LogReader<L>,

@@ -5,13 +5,14 @@ ghost use Rattle.std.specs.Prelude.{◌≡◌};
 use crate::beside::serve_beside;
 use crate::hub_fixture::opened;
 use crate::peer::{connect, read_until, send_query};
-use hub::{Gate, Hub, OpenedHub};
+use hub::{Hub, HubBuilder, ServerObserver};
 use shared_log::LogName;
 use slots::SlotName;
 use std::alloc::Global;
 use std::io::{Read, Write};
 use std::marker::Brand;
 use std::net::{Net, SocketAddr, TcpListener, TcpStream};
+use std::random::RandomSource;
 use std::sync::Wait;
 use std::sync::atomic::{AtomicU64, Ordering};
 use std::test::Fail;
@@ -28,7 +29,7 @@ struct Held<'h, R: Clock> {
     late: AtomicU64,
 }
 
-impl<'h, R: Clock> Gate for Held<'h, R> {
+impl<'h, R: Clock> ServerObserver for Held<'h, R> {
     fn before(&self, connection: u32, command: u32) {
         match (connection, command) {
             (1, 1) => self.hold(&self.first),
@@ -91,10 +92,15 @@ fn ask_in_turn<R: Clock, S: Read + Write>(
     read_until(alloc, second, b'Z')
 }
 
-fn serve_both<L, R>(rt: &R, alloc: Global, opened: OpenedHub) -> Result<bool, Fail>
+fn serve_both<L, R>(rt: &R, alloc: Global, opened: HubBuilder) -> Result<bool, Fail>
 where
     L: LogName + SlotName + Send + Sync,
-    R: Net<Listener = TcpListener, Stream = TcpStream> + Threads + Wait + Clock + Sync,
+    R: Net<Listener = TcpListener, Stream = TcpStream>
+        + Threads
+        + Wait
+        + Clock
+        + RandomSource
+        + Sync,
     requires log { opened.log.history.seen.book ≡ L.book }
     requires slots { opened.slots.first.table_id ≡ L.table }
 {

@@ -23,10 +23,10 @@ fn more_records_than_room(rt: HostRuntime) -> Result<(), Fail> {
 pub fn give_all_back<L: LogName, R: Wait + Abort>(
     rt: &R,
     alloc: Global,
-    desk: &Mutex<Publisher<L>>,
+    backend: &Mutex<Publisher<L>>,
     reader: &mut LogReader<L>,
 ) -> Result<(), Fail> {
-    let last = commit_many(rt, alloc, desk)?;
+    let last = commit_many(rt, alloc, backend)?;
     reader.learn(last.told());
     assert!(rt; matches!(reader.fetch(alloc, 1), Err(ReadFault::Removed)));
     assert!(rt; reader.resume(FIRST_POSITION, usize::MAX) == Err(ReadFault::Removed));
@@ -41,14 +41,14 @@ pub fn give_all_back<L: LogName, R: Wait + Abort>(
 fn commit_many<L: LogName, R: Wait>(
     rt: &R,
     alloc: Global,
-    desk: &Mutex<Publisher<L>>,
+    backend: &Mutex<Publisher<L>>,
 ) -> Result<Receipt<L>, SessionFault> {
-    let mut last = commit_under_lock(rt, alloc, desk, 0, "ab", 7)?;
+    let mut last = commit_under_lock(rt, alloc, backend, 0, "ab", 7)?;
     for id in 1..TRANSACTIONS {
-        let mut guard = desk.lock(rt);
+        let mut guard = backend.lock(rt);
         guard.give_back(usize::MAX);
         MutexGuard::unlock(guard);
-        last = commit_under_lock(rt, alloc, desk, id, "ab", 7)?;
+        last = commit_under_lock(rt, alloc, backend, id, "ab", 7)?;
     }
     Ok(last)
 }

@@ -1,7 +1,7 @@
 //! A hub of one table, for tests.
 
 use catalog::Catalog;
-use hub::OpenedHub;
+use hub::HubBuilder;
 use pqformat::Text;
 use publication::Publications;
 use std::alloc::Global;
@@ -14,9 +14,9 @@ publication = [{ name = 'p', tables = [{ name = 'public.item' }] }]
 ";
 
 /// A hub of the table, whose log has room for 4,000 records.
-pub fn opened(alloc: Global) -> Result<OpenedHub, Fail> {
+pub fn opened(alloc: Global) -> Result<HubBuilder, Fail> {
     let catalog = Catalog::from_toml(alloc, CONFIGURATION)?;
     let publications = Publications::from_toml(alloc, CONFIGURATION, &catalog)?;
     let systemid = Text::copy_of(alloc, "42")?;
-    Ok(OpenedHub::new(alloc, catalog, publications, systemid, 4_000)?)
+    Ok(HubBuilder::new(alloc, catalog, publications, systemid, 4_000)?)
 }

@@ -1,5 +1,8 @@
 //! Tests of the crates' public calls, and of connections that are served side by side over loopback: what samples of bytes and
 //! schedules can't say.
+//!
+//! Read `hub_fixture.rt` and `log_fixture.rt`, then any of the others. Each is a scope of its own, with
+//! the crate whose calls it makes at its top.
 #![tactic(auto)]
 
 #[cfg(test)]

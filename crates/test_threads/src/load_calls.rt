@@ -31,35 +31,35 @@ fn two_sessions_beside_a_reader(rt: HostRuntime) -> Result<(), Fail> {
 pub fn run_load<L: LogName + Send + Sync, R: Threads + Wait + Abort + Sync>(
     rt: &R,
     alloc: Global,
-    desk: &Mutex<Publisher<L>>,
+    backend: &Mutex<Publisher<L>>,
     reader: &mut LogReader<L>,
     last: &mut LogReader<L>,
 ) -> Result<(), Fail> {
     let mut fetched = Vec::new(alloc);
-    let receipts = beside(rt, alloc, desk, reader, &mut fetched)?;
+    let receipts = beside(rt, alloc, backend, reader, &mut fetched)?;
     fetch_rest(alloc, reader, &mut fetched, receipts.as_slice())?;
     see_whole(
         rt,
         alloc,
-        desk,
+        backend,
         last,
         fetched.as_slice(),
         receipts.as_slice(),
     )
 }
 
-/// The receipts of the sessions. What was read beside them is put behind what was fetched.
+/// The receipts of the sessions. What was read beside them is put after what was fetched.
 fn beside<L: LogName + Send + Sync, R: Threads + Wait + Sync>(
     rt: &R,
     alloc: Global,
-    desk: &Mutex<Publisher<L>>,
+    backend: &Mutex<Publisher<L>>,
     reader: &mut LogReader<L>,
     fetched: &mut Vec<Arc<Record>>,
 ) -> Result<Vec<Receipt<L>>, Fail> {
     let is_done = AtomicBool::new(false);
     let (written, followed) = join(
         rt,
-        || run_sessions(rt, alloc, desk, &is_done),
+        || run_sessions(rt, alloc, backend, &is_done),
         || follow(alloc, reader, fetched, &is_done),
     );
     let receipts = written?;
@@ -72,10 +72,10 @@ fn beside<L: LogName + Send + Sync, R: Threads + Wait + Sync>(
 fn run_sessions<L: LogName + Send + Sync, R: Threads + Wait + Sync>(
     rt: &R,
     alloc: Global,
-    desk: &Mutex<Publisher<L>>,
+    backend: &Mutex<Publisher<L>>,
     is_done: &AtomicBool,
 ) -> Result<Vec<Receipt<L>>, SessionFault> {
-    let session = |number: usize| run_session(rt, alloc, desk, number);
+    let session = |number: usize| run_session(rt, alloc, backend, number);
     let sessions = map_indices(rt, alloc, SESSIONS, &session);
     is_done.store(true, Ordering::SeqCst);
     joined(alloc, sessions?)
@@ -96,13 +96,13 @@ fn joined<L: LogName>(
 fn run_session<L: LogName, R: Wait>(
     rt: &R,
     alloc: Global,
-    desk: &Mutex<Publisher<L>>,
+    backend: &Mutex<Publisher<L>>,
     number: usize,
 ) -> Result<Vec<Receipt<L>>, SessionFault> {
     let mut receipts = Vec::new(alloc);
     for turn in 0..TRANSACTIONS {
         let id = (number % SESSIONS * TRANSACTIONS + turn) as i32;
-        receipts.push(commit_under_lock(rt, alloc, desk, id, "a", 1)?)?;
+        receipts.push(commit_under_lock(rt, alloc, backend, id, "a", 1)?)?;
     }
     Ok(receipts)
 }
@@ -128,12 +128,12 @@ fn follow<L: LogName>(
 fn see_whole<L: LogName, R: Wait + Abort>(
     rt: &R,
     alloc: Global,
-    desk: &Mutex<Publisher<L>>,
+    backend: &Mutex<Publisher<L>>,
     last: &mut LogReader<L>,
     fetched: &[Arc<Record>],
     receipts: &[Receipt<L>],
 ) -> Result<(), Fail> {
-    let log = log_of(rt, alloc, desk, last)?;
+    let log = log_of(rt, alloc, backend, last)?;
     let log = log.as_slice();
     assert!(rt; log.len() == 2 * SESSIONS * TRANSACTIONS);
     assert!(rt; have_commits(log, receipts) && have_same_ends(log, fetched));

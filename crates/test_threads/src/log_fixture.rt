@@ -67,13 +67,13 @@ pub fn item(alloc: Global, id: i32, name: &str, qty: i64) -> Result<Row, AllocEr
 pub fn commit_under_lock<L: LogName, R: Wait>(
     rt: &R,
     alloc: Global,
-    desk: &Mutex<Publisher<L>>,
+    backend: &Mutex<Publisher<L>>,
     id: i32,
     name: &str,
     qty: i64,
 ) -> Result<Receipt<L>, SessionFault> {
     let row = item(alloc, id, name, qty)?;
-    let mut guard = desk.lock(rt);
+    let mut guard = backend.lock(rt);
     let done = commit_one(rt, &mut guard, row);
     MutexGuard::unlock(guard);
     done
@@ -83,13 +83,13 @@ pub fn commit_under_lock<L: LogName, R: Wait>(
 pub fn commit_elsewhere<L: LogName + Send + Sync, R: Threads + Wait + Sync>(
     rt: &R,
     alloc: Global,
-    desk: &Mutex<Publisher<L>>,
+    backend: &Mutex<Publisher<L>>,
     row: (i32, &str, i64),
 ) -> Result<Receipt<L>, SessionFault> {
     let (id, name, qty) = row;
     let (done, ()) = join(
         rt,
-        || commit_under_lock(rt, alloc, desk, id, name, qty),
+        || commit_under_lock(rt, alloc, backend, id, name, qty),
         || (),
     );
     done
@@ -131,10 +131,10 @@ fn is_commit_of(body: &Body, top: u32) -> bool {
 pub fn log_of<L: LogName, R: Wait>(
     rt: &R,
     alloc: Global,
-    desk: &Mutex<Publisher<L>>,
+    backend: &Mutex<Publisher<L>>,
     reader: &mut LogReader<L>,
 ) -> Result<Vec<Arc<Record>>, ReadFault> {
-    let mut guard = desk.lock(rt);
+    let mut guard = backend.lock(rt);
     let count = guard.tell(reader);
     MutexGuard::unlock(guard);
     reader.fetch(alloc, count)

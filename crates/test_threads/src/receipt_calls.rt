@@ -20,10 +20,10 @@ fn a_receipt_on_another_thread(rt: HostRuntime) -> Result<(), Fail> {
 pub fn learn_elsewhere<L: LogName + Send + Sync, R: Threads + Wait + Abort + Sync>(
     rt: &R,
     alloc: Global,
-    desk: &Mutex<Publisher<L>>,
+    backend: &Mutex<Publisher<L>>,
     reader: &mut LogReader<L>,
 ) -> Result<(), Fail> {
-    let receipt = commit_elsewhere(rt, alloc, desk, (1, "ab", 7))?;
+    let receipt = commit_elsewhere(rt, alloc, backend, (1, "ab", 7))?;
     let fetched = fetched_elsewhere(rt, alloc, reader, &receipt)?;
     assert!(rt; receipt.xid() == 700 && has_commit_of(fetched.as_slice(), &receipt));
     Ok(())

@@ -64,24 +64,24 @@ fn readers_that_were_told_nothing(rt: HostRuntime) -> Result<(), Fail> {
 pub fn look_twice<L: LogName + Send + Sync, R: Threads + Wait + Abort + Sync>(
     rt: &R,
     alloc: Global,
-    desk: &Mutex<Publisher<L>>,
+    backend: &Mutex<Publisher<L>>,
     plain: &mut LogReader<L>,
     fed: &mut LogReader<L>,
 ) -> Result<(), Fail> {
     let mut sender = sender_of_p(alloc)?;
-    look_at_both(rt, alloc, desk, plain, fed, &mut sender)
+    look_at_both(rt, alloc, backend, plain, fed, &mut sender)
 }
 
 fn look_at_both<L: LogName + Send + Sync, R: Threads + Wait + Abort + Sync>(
     rt: &R,
     alloc: Global,
-    desk: &Mutex<Publisher<L>>,
+    backend: &Mutex<Publisher<L>>,
     plain: &mut LogReader<L>,
     fed: &mut LogReader<L>,
     sender: &mut Sender,
 ) -> Result<(), Fail> {
     for sample in &[FIRST, SECOND] {
-        commit_elsewhere(rt, alloc, desk, sample.row)?;
+        commit_elsewhere(rt, alloc, backend, sample.row)?;
         see_records(rt, alloc, plain, sample)?;
         see_block(rt, alloc, fed, sender, sample)?;
     }
@@ -166,10 +166,10 @@ fn writers_that_fail(rt: HostRuntime) -> Result<(), Fail> {
 pub fn turn_narrowly<L: LogName, R: Wait + Abort>(
     rt: &R,
     alloc: Global,
-    desk: &Mutex<Publisher<L>>,
+    backend: &Mutex<Publisher<L>>,
     reader: &mut LogReader<L>,
 ) -> Result<(), Fail> {
-    commit_under_lock(rt, alloc, desk, 1, "ab", 7)?;
+    commit_under_lock(rt, alloc, backend, 1, "ab", 7)?;
     turn_to_each(rt, alloc, reader)
 }
 

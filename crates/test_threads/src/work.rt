@@ -56,26 +56,26 @@ fn with_opened<L: LogName + Send + Sync, R: Threads + Wait + Abort + Sync>(
     requires name { opened.history.seen.book ≡ L.book }
 {
     let (publisher, mut readers) = Publisher::<L>::open(rt, opened)?;
-    let desk = Mutex::new(publisher);
-    let done = with_log(rt, alloc, &desk, readers.as_mut_slice(), work);
-    desk.into_inner().close(rt);
+    let backend = Mutex::new(publisher);
+    let done = with_log(rt, alloc, &backend, readers.as_mut_slice(), work);
+    backend.into_inner().close(rt);
     done
 }
 
 fn with_log<L: LogName + Send + Sync, R: Threads + Wait + Abort + Sync>(
     rt: &R,
     alloc: Global,
-    desk: &Mutex<Publisher<L>>,
+    backend: &Mutex<Publisher<L>>,
     readers: &mut [LogReader<L>],
     work: Work,
 ) -> Result<(), Fail> {
     match (work, readers) {
-        (Work::LearnElsewhere, [reader]) => learn_elsewhere(rt, alloc, desk, reader),
-        (Work::LookTwice, [plain, fed]) => look_twice(rt, alloc, desk, plain, fed),
-        (Work::TurnNarrowly, [reader]) => turn_narrowly(rt, alloc, desk, reader),
-        (Work::DrainByBytes, [reader]) => drain_by_bytes(rt, alloc, desk, reader),
-        (Work::GiveBack, [reader]) => give_all_back(rt, alloc, desk, reader),
-        (Work::Load, [reader, last]) => run_load(rt, alloc, desk, reader, last),
+        (Work::LearnElsewhere, [reader]) => learn_elsewhere(rt, alloc, backend, reader),
+        (Work::LookTwice, [plain, fed]) => look_twice(rt, alloc, backend, plain, fed),
+        (Work::TurnNarrowly, [reader]) => turn_narrowly(rt, alloc, backend, reader),
+        (Work::DrainByBytes, [reader]) => drain_by_bytes(rt, alloc, backend, reader),
+        (Work::GiveBack, [reader]) => give_all_back(rt, alloc, backend, reader),
+        (Work::Load, [reader, last]) => run_load(rt, alloc, backend, reader, last),
         _ => Err(Fail::from("as many readers")),
     }
 }

@@ -29,7 +29,7 @@ pub fn tell_value<T: Debug>(answer: &mut String, value: &T) -> Result<(), AllocE
     write!(answer, "= {value:?}")
 }
 
-/// Adds a value behind what stands there.
+/// Adds a value after what stands there.
 pub fn add_value<T: Debug>(answer: &mut String, value: &T) -> Result<(), AllocError> {
     write!(answer, " {value:?}")
 }

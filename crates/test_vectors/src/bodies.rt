@@ -10,7 +10,7 @@ use bytes::BytesMut;
 use copyboth::{
     ServerBody, Status, read_client, read_server, write_keepalive, write_status, write_xlogdata,
 };
-use pgoutput::{Logical, OutFault, read_logical, write_logical, written_and_read};
+use pgoutput::{Logical, PgoutputError, read_logical, write_logical, written_and_read};
 use std::alloc::{AllocError, Global};
 use tables::{
     BodyFault, Change, MAX_CONTENT_LENGTH, MAX_PREFIX_LENGTH, MAX_TRUNCATED, body_len, read_body,
@@ -24,7 +24,7 @@ pub fn answer_logical(alloc: Global, bytes: &[u8], answer: &mut String) -> Resul
 
 fn add_logical(
     alloc: Global,
-    came: &Result<Logical, OutFault>,
+    came: &Result<Logical, PgoutputError>,
     read: &[u8],
     answer: &mut String,
 ) -> Result<()>

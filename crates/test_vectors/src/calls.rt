@@ -7,7 +7,8 @@ use crate::fields::answer_field;
 use crate::filters::answer_filter;
 use crate::framing::{answer_back, answer_front, answer_startup};
 use crate::passwords::{
-    answer_hi, answer_hmac, answer_login, answer_proved, answer_verifier, answer_verifier_of,
+    answer_hi, answer_hmac, answer_login, answer_proved, answer_proves, answer_verifier,
+    answer_verifier_of,
 };
 use crate::publishing::{answer_explained, answer_published};
 use crate::subscriber::{answer_applied, answer_render, answer_status};
@@ -36,6 +37,7 @@ pub fn answer_call(alloc: Global, call: &str, given: &str, answer: &mut String) 
         "verifier_of" => answer_verifier_of(alloc, given, answer),
         "verifier" => answer_verifier(alloc, given, answer),
         "proved" => answer_proved(alloc, given, answer),
+        "proves" => answer_proves(alloc, given, answer),
         "login" => answer_login(alloc, given, answer),
         _ => answer_digits(alloc, call, given, answer),
     }

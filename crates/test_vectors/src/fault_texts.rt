@@ -3,7 +3,7 @@
 use anyhow::{Result, bail};
 use configuration::ConfigFault;
 use frames::FrameFault;
-use pgoutput::OutFault;
+use pgoutput::PgoutputError;
 use publication::PubFault;
 use reorder::ReorderFault;
 use rowfilter::FilterFault;
@@ -24,13 +24,13 @@ const FRAME_FAULTS: [FrameFault; 7] = [
     FrameFault::Memory,
 ];
 
-const OUT_FAULTS: [OutFault; 6] = [
-    OutFault::Short,
-    OutFault::UnknownKind,
-    OutFault::BadMark,
-    OutFault::BadText,
-    OutFault::Trailing,
-    OutFault::Memory,
+const OUT_FAULTS: [PgoutputError; 6] = [
+    PgoutputError::Short,
+    PgoutputError::UnknownKind,
+    PgoutputError::BadMark,
+    PgoutputError::BadText,
+    PgoutputError::Trailing,
+    PgoutputError::Memory,
 ];
 
 const BODY_FAULTS: [BodyFault; 6] = [
@@ -125,7 +125,7 @@ const ANSWERS: [Answer; 27] = [
 pub fn answer_texts(given: &str, answer: &mut String) -> Result<()> {
     match given {
         "FrameFault" => add_texts(&FRAME_FAULTS, answer),
-        "OutFault" => add_texts(&OUT_FAULTS, answer),
+        "PgoutputError" => add_texts(&OUT_FAULTS, answer),
         "BodyFault" => add_texts(&BODY_FAULTS, answer),
         "FilterFault" => add_texts(&FILTER_FAULTS, answer),
         "SessionFault" => add_texts(&SESSION_FAULTS, answer),

@@ -5,7 +5,7 @@ use bytes::BytesMut;
 use pqformat::{Cursor, put_byte, put_bytes, put_int16, put_int32, put_int64, put_string, utf8_of};
 use std::alloc::{AllocError, Global};
 
-/// Adds the field, or None where it isn't there whole, and what is left behind it.
+/// Adds the field, or None where it isn't there whole, and what is left after it.
 pub fn answer_field(
     alloc: Global,
     call: &str,

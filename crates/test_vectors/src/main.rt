@@ -1,7 +1,7 @@
 //! Makes the calls that standard input asks for, and prints what came of each.
 //!
 //! A line is a call's name, a space and what the call is given, in which `␤` stands for a line end. Its answer is one line:
-//! `= VALUE`, as the value's type is debugged, or `! FAULT`. Behind it stands ` ? ` and what went wrong, if anything did: a
+//! `= VALUE`, as the value's type is debugged, or `! FAULT`. After it stands ` ? ` and what went wrong, if anything did: a
 //! value isn't written as it was read, or there is no such call.
 #![tactic(auto)]
 
@@ -14,7 +14,7 @@ mod filters;
 mod framing;
 mod passwords;
 mod publishing;
-mod scripted_desk;
+mod scripted_backend;
 mod subscriber;
 mod talk;
 mod texts;

@@ -4,8 +4,8 @@ use crate::answer::{bytes_of, tell_fault};
 use anyhow::{Result, bail};
 use pqformat::Items;
 use scram::{
-    Account, Asked, Exchange, ExchangeFault, Login, Reply, Verifier, hmac_sha256, line_of_user,
-    salted_password,
+    Account, Asked, ClientExchange, Exchange, ExchangeFault, Login, Reply, ServerFault, Verifier,
+    hmac_sha256, line_of_user, salted_password,
 };
 use std::alloc::{AllocError, Global};
 
@@ -68,6 +68,34 @@ pub fn answer_proved(alloc: Global, given: &str, answer: &mut String) -> Result<
         Ok((challenge, signature)) => add_said(alloc, &challenge, &signature, answer),
         Err(fault) => write!(answer, "! {fault:?}"),
     }?)
+}
+
+/// `PASSWORD|NAME|NONCE|FIRST|LAST`: what a client says, and whether it takes the server for one that knows the password.
+pub fn answer_proves(alloc: Global, given: &str, answer: &mut String) -> Result<()> {
+    let (password, rest) = given.split_once('|').unwrap_or((given, ""));
+    let (name, rest) = rest.split_once('|').unwrap_or((rest, ""));
+    let (nonce, rest) = rest.split_once('|').unwrap_or((rest, ""));
+    let (first, last) = rest.split_once('|').unwrap_or((rest, ""));
+    let name = Items::new(Vec::from_slice(alloc, name.as_bytes())?);
+    let nonce = Items::new(Vec::from_slice(alloc, nonce.as_bytes())?);
+    let exchange = ClientExchange::new(name, nonce);
+    let asked = exchange.first(alloc)?;
+    Ok(match answered(alloc, &exchange, password, first, last) {
+        Ok(said) => add_said(alloc, &asked, &said, answer),
+        Err(fault) => write!(answer, "! {fault:?}"),
+    }?)
+}
+
+fn answered(
+    alloc: Global,
+    exchange: &ClientExchange,
+    password: &str,
+    first: &str,
+    last: &str,
+) -> Result<Items<u8>, ServerFault> {
+    let answer = exchange.answer(alloc, password.as_bytes(), first.as_bytes())?;
+    answer.confirm(last.as_bytes())?;
+    Ok(answer.said)
 }
 
 /// `VERIFIER|NONCE|BODY|..`: what is said to messages with these bodies, which are in hexadecimal digits, up to the end of the login.

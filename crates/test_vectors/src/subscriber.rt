@@ -7,7 +7,7 @@ use message_lines::render;
 use pgoutput::{Begin, Commit, Logical, read_logical};
 use std::alloc::{AllocError, Global};
 
-/// Pieces of a stream in digits, a comma behind each; a dot among them begins another connection. Adds what each piece was answered,
+/// Pieces of a stream in digits, a comma after each; a dot among them begins another connection. Adds what each piece was answered,
 /// and then the position and the lines of what was applied.
 pub fn answer_applied(alloc: Global, given: &str, answer: &mut String) -> Result<()> {
     add_stream(alloc, &mut Applier::new(alloc), given, answer)

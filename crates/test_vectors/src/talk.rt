@@ -1,25 +1,25 @@
 //! Conversations with a server.
 
 use crate::answer::bytes_of;
-use crate::scripted_desk::ScriptedDesk;
+use crate::scripted_backend::ScriptedBackend;
 use anyhow::{Context, Result};
 use bytes::BytesMut;
 use server::{ConnFault, Connection, Phase};
 use std::alloc::{AllocError, Global};
 
-/// A connection, its desk, and what was said to its client.
+/// A connection, its backend, and what was said to its client.
 #[derive(Drop)]
 struct Talk {
-    desk: ScriptedDesk,
+    backend: ScriptedBackend,
     connection: Connection,
     said: BytesMut,
 }
 
-/// Pieces of what a client sends to the first connection of a server, in digits, a comma behind each; a dot among them ends the
-/// stream, if one stops. Adds what each was answered and the phase behind it, then what the desk was asked and what was said.
+/// Pieces of what a client sends to the first connection of a server, in digits, a comma after each; a dot among them ends the
+/// stream, if one stops. Adds what each was answered and the phase after it, then what the backend was asked and what was said.
 pub fn answer_talk(alloc: Global, given: &str, answer: &mut String) -> Result<()> {
     let mut talk = Talk {
-        desk: ScriptedDesk::new(alloc),
+        backend: ScriptedBackend::new(alloc),
         connection: Connection::new(alloc, 1),
         said: BytesMut::new(alloc),
     };
@@ -29,7 +29,7 @@ pub fn answer_talk(alloc: Global, given: &str, answer: &mut String) -> Result<()
 impl Talk {
     fn add_all(&mut self, alloc: Global, given: &str, answer: &mut String) -> Result<()> {
         self.add_pieces(alloc, given, answer)?;
-        let asked = self.desk.asked().context("is not told whole")?;
+        let asked = self.backend.asked().context("is not told whole")?;
         Ok(self.add_end(asked, answer)?)
     }
 
@@ -53,7 +53,7 @@ impl Talk {
         let bytes = bytes_of(alloc, piece)?;
         Ok(
             self.connection
-                .take(bytes.as_slice(), &mut self.desk, &mut self.said),
+                .take(bytes.as_slice(), &mut self.backend, &mut self.said),
         )
     }
 

@@ -135,7 +135,7 @@ released-live = refl
 
 -- WHERE A STREAM BEGINS TO READ
 
--- the first transaction began before the other one committed, and both have ended behind its Commit
+-- the first transaction began before the other one committed, and both have ended after its Commit
 interleaved-from_last_commit : restart 0x10000B0 interleaved ≡ 0x1000000
 interleaved-from_last_commit = refl
 

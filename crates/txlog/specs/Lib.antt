@@ -1,9 +1,10 @@
+pub mod Giving
 pub mod Invariants
 pub mod Publishing
 pub mod Receipts
 pub mod Rows
+pub use Rattle.pqformat.specs.Fields
 pub use Rattle.tables.specs.Spelling
 pub use Rattle.tables.specs.Tables
-pub use Rattle.pqformat.specs.Fields
 pub use Rattle.wal.specs.Log
 pub use Rattle.wal.specs.Records

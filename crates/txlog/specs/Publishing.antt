@@ -180,7 +180,7 @@ fault_of store_faults.TooLarge = faults.TooLarge
 fault_of store_faults.BadPrefix = faults.BadPrefix
 fault_of store_faults.Memory = faults.Memory
 
--- want of memory comes behind want of room
+-- want of memory comes after want of room
 abbrev pub fault_at : ℕ → StoreFault → SessionFault
 fault_at room store_faults.Memory = if room == 0 then faults.LogFull else faults.Memory
 fault_at room fault = fault_of fault

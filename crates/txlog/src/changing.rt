@@ -241,7 +241,7 @@ fn push<L: LogName, R: Wait>(
     Ok(())
 }
 
-/// Why the publisher refuses what the store refused: want of memory comes behind want of room.
+/// Why the publisher refuses what the store refused: want of memory comes after want of room.
 pub(crate) fn refusal(fault: StoreFault, room: usize) -> SessionFault
     ensures { result ≡ fault_at room fault }
 {

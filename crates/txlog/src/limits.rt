@@ -13,4 +13,4 @@ pub const MAX_LIVE: usize = 256;
 pub const MAX_DEPTH: usize = 16;
 
 /// The greatest number of readers of a log.
-pub const MAX_READERS: usize = 32;
+pub const MAX_READERS: usize = 2048;

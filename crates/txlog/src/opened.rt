@@ -22,7 +22,7 @@ pub struct Opened {
 }
 
 impl Opened {
-    /// For a log of this many records, and this many readers. S12 unless there are 1 to 32.
+    /// For a log of this many records, and this many readers. S12 unless there are 1 to 2,048.
     pub fn new(
         alloc: Global,
         catalog: Catalog,
@@ -63,5 +63,15 @@ impl Opened {
             readers,
             history,
         })
+    }
+
+    /// The same for another number of readers: at least one, and at most `MAX_READERS`.
+    pub fn for_readers(mut self, readers: usize) -> Self
+        ensures same { (result.history ≡ self.history) × (result.catalog ≡ self.catalog)
+            × (result.capacity ≡ self.capacity) }
+        ensures readers { 1 ≤ readers → readers ≤ MAX_READERS → result.readers ≡ readers }
+    {
+        self.readers = readers.max(1).min(MAX_READERS);
+        self
     }
 }

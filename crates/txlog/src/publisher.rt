@@ -130,6 +130,20 @@ impl<L: LogName> Publisher<L> {
         self.log.end()
     }
 
+    /// How many records the log has had.
+    pub fn count(&self) -> usize
+        ensures { result ≡ length self.now.log }
+    {
+        self.log.count()
+    }
+
+    /// How many of them lie in memory, without those that leave it with the next ones.
+    pub fn kept(&self) -> usize
+        ensures { result ≡ length self.now.log - self.now.given }
+    {
+        self.log.count() - self.log.given()
+    }
+
     /// Tells a reader of the whole log: its next fetch sees no less. It answers how many records that are, and takes no memory.
     pub fn tell(&mut self, reader: &mut LogReader<L>) -> usize
         ensures count { result ≡ length self.old.log }
@@ -165,7 +179,7 @@ impl<L: LogName> Publisher<L> {
     }
 
     /// The records that may still be written.
-    pub(crate) fn room(&self) -> usize
+    pub fn room(&self) -> usize
         ensures { result ≡ room self.now }
     {
         self.capacity - (self.log.count() + self.live.len())

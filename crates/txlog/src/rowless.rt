@@ -5,7 +5,7 @@ ghost use Rattle.txlog.specs.Invariants.{IsPublisher};
 ghost use Rattle.txlog.specs.Publishing.{PublisherState, after_change, after_note, is_live, message_with};
 ghost use Rattle.txlog.specs.Rows.{rows_of};
 
-/// What stands in the tables is the same behind a message, in a transaction or outside of all.
+/// What stands in the tables is the same after a message, in a transaction or outside of all.
 pub fn a_message_changes_no_row()
     ensures message { (s : PublisherState) (xid : ℕ) (prefix content : List ℕ) → IsPublisher s →
         is_live xid s.live ≡ true →

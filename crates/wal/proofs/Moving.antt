@@ -23,7 +23,7 @@ first-later p q (r ∷ log) more sharper = by_tests (q r) (p r) sharper.0 (first
     by_tests false true is le = omega arith
     by_tests false false is le = omega (arith, le)
 
--- who is in progress behind more records was so before them
+-- who is in progress after more records was so before them
 was_in_progress : (log more : List Record) (r : Record) → WellFormedAfter log more → IsNamedIn log r → is_in_progress (log ++ more) r ≡ true → is_in_progress log r ≡ true
 was_in_progress log more r good named goes = by_note (is_note r.body) refl
   where

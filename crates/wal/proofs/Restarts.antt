@@ -1,4 +1,4 @@
--- What may be skipped: behind the restart position stands every record of a transaction that commits at the start position or
+-- What may be skipped: after the restart position stands every record of a transaction that commits at the start position or
 -- later, and a section that begins there says what the whole log does.
 use Rattle.std.proofs.Common.{◌≡◌, ◌≤◌, ℕ, zero, suc, ◌==◌, Bool, true, false, cond, ◌&&◌, ◌||◌, not, List, [], ◌∷◌, ◌++◌, length, take, drop, refl, sym, ap, subst, ◌∙◌, append_assoc, eq-eqb, arith}
 use Rattle.std.specs.List.{AllByRecursion}
@@ -172,7 +172,7 @@ fewer-skips_none skipped before rest s good none =
     (λ other away. of_none r (is.1 other) away) in
     all_when _ _ each skipped (all_both _ _ skipped none named)
 
--- What these records commit, with what was skipped or without, where the log goes on behind them.
+-- What these records commit, with what was skipped or without, where the log goes on after them.
 pub section-alike : (skipped before records rest : List Record) (s : ℕ) → WellFormedAfter [] ((skipped ++ (before ++ records)) ++ rest) → SkipsNone ((skipped ++ (before ++ records)) ++ rest) s skipped
     → committed_from s (skipped ++ before) records ≡ committed_from s before records
 section-alike skipped before records rest s good none =

@@ -1,4 +1,4 @@
--- A section of a well-formed log, behind records that were skipped: what it commits of transactions that have no record there.
+-- A section of a well-formed log, after records that were skipped: what it commits of transactions that have no record there.
 use Rattle.std.proofs.Common.{◌≡◌, ℕ, ℤ, ◌==◌, Bool, true, false, cond, ◌&&◌, ◌||◌, not, List, [], ◌∷◌, ◌++◌, reverse, refl, sym, ap, subst, ◌∙◌, append_assoc, eq-eqb, inl, inr}
 use Rattle.std.specs.List.{filter, list_any, AllByRecursion}
 use Rattle.std.specs.Prelude.{nat_le}
@@ -261,7 +261,7 @@ module _ (log : List Record) (s : ℕ) (skipped before : List Record) (none : Sk
       ∙ ap (λ es. es ++ filter (is_kept (skipped ++ before) top) (entries before)) (filter_none (is_kept (skipped ++ before) top) (entries skipped) away)
       ∙ filter_agrees (is_kept (skipped ++ before) top) (is_kept before top) (entries before) (each _ same_kept (entries before))
 
--- a Commit at s or later behind some records of the log
+-- a Commit at s or later after some records of the log
 record Commits (log before : List Record) (s xid : ℕ) : Type 0 where
   counts : commits_from log s xid ≡ true
   own : top_of log xid ≡ xid

@@ -1,4 +1,4 @@
--- Where a stream that starts at a position begins to read the log: behind that position stand all records of the transactions
+-- Where a stream that starts at a position begins to read the log: after that position stand all records of the transactions
 -- that commit there or later, and all notes from the position on. In PostgreSQL it is the `restart_lsn` of a replication slot, "the address (LSN) of oldest WAL
 -- which still might be required by the consumer of this slot" (manual, pg_replication_slots).
 use Rattle.std.specs.Prelude.{ℕ, suc, Bool, ◌&&◌, not, List, [], ◌∷◌, take, nat_le, if◌then◌else◌}

@@ -29,7 +29,7 @@ use Rattle.walsender.specs.Lent.{AreLastOf, LentTransaction, sent_transactions}
 use Rattle.walsender.specs.Sending.{SenderState, MayFollow, HasChunks, HasRead, LacksRoom, blocks, published_bytes, published_by_record, sent_by_record, ReadOne, ReadAll, RanOut, OutputUnchanged, AddsPublished}
 use Rattle.walsender.proofs.Lasting.{last_more, last_then, sent_by_record_is, sent_from-append}
 
--- ---- items behind items
+-- ---- items after items
 
 filter_append : {A : Type 0} (p : A → Bool) (xs ys : List A) → filter p (xs ++ ys) ≡ filter p xs ++ filter p ys
 filter_append p [] ys = refl
@@ -53,7 +53,7 @@ pub relations_sent_through-append : (relations_sent : List ℕ) (a b : List Publ
 relations_sent_through-append relations_sent [] b = refl
 relations_sent_through-append relations_sent (t ∷ a) b = relations_sent_through-append (relations_sent_by_all relations_sent t.changes) a b
 
--- blocks behind blocks
+-- blocks after blocks
 pub spelled-blocks : (rel : ℕ → Relation) (relations_sent : List ℕ) (clock : ℤ) (a b : List Published)
     → bytes_of_items rel relations_sent (blocks clock (a ++ b)) ≡ bytes_of_items rel relations_sent (blocks clock a) ++ bytes_of_items rel (relations_sent_through relations_sent a) (blocks clock b)
 spelled-blocks rel relations_sent clock [] b = refl

@@ -1,4 +1,4 @@
--- A transaction that waits behind all others, and one that doesn't come to wait.
+-- A transaction that waits after all others, and one that doesn't come to wait.
 use Rattle.std.proofs.Common.{◌≡◌, ℕ, ℤ, ◌+◌, List, [], ◌∷◌, ◌++◌, Ok, Err, length, map, inl, sym, ap, subst, ◌∙◌, append_assoc, append-nil, arith}
 use Rattle.std.specs.Prelude.{reverse}
 use Rattle.std.specs.declared.alloc.AllocError.{AllocError}
@@ -20,7 +20,7 @@ use Rattle.walsender.specs.Outgoing.{Grows, IsOutgoing, Queues, StaysQueued, fra
 use Rattle.walsender.specs.Lent.{lent_with}
 use Rattle.walsender.specs.declared.header.Header.{Header}
 use Rattle.walsender.specs.declared.outgoing.Outgoing.{Outgoing}
-use Rattle.walsender.specs.declared.waiting.Waiting.{Waiting}
+use Rattle.walsender.specs.declared.committed_transaction.CommittedTransaction.{CommittedTransaction}
 use Rattle.walsender.proofs.Framing.{block_is}
 use Rattle.walsender.proofs.Growing.{frames_same, room_made, settled_kept, size_kept, stays}
 use Rattle.walsender.proofs.Lent.{Keeps, keeps_given_back, taken_back, tidy_back}
@@ -32,7 +32,7 @@ regroup front frames behind begin changes commit = simp append_assoc
 -- ---- a transaction that waits
 
 module _ (selection : PublicationSet) (s : ReorderState) (o o' : Outgoing) (ready : ReadyState) (clock : ℤ) (h : Header) (good : IsOutgoing selection s o) (q : Queues selection ready clock h o o') where
-  abbrev last : Waiting
+  abbrev last : CommittedTransaction
   last = record { ready = ready; next = 0; header = h; clock = clock; before = q.before }
 
   abbrev begin : List ℕ
@@ -57,7 +57,7 @@ module _ (selection : PublicationSet) (s : ReorderState) (o o' : Outgoing) (read
   in_place = omega (arith, good.placed, q.place)
 
   waiting_readies : ready_states o'.waiting.items ≡ ready_states o.waiting.items ++ ready ∷ []
-  waiting_readies = ap ready_states q.waiting ∙ map-append (λ (w : Waiting). w.ready) o.waiting.items (last ∷ [])
+  waiting_readies = ap ready_states q.waiting ∙ map-append (λ (w : CommittedTransaction). w.ready) o.waiting.items (last ∷ [])
 
   within_all : AreWithin (length o'.made.items) (o.waiting.items ++ last ∷ [])
   within_all =
@@ -67,7 +67,7 @@ module _ (selection : PublicationSet) (s : ReorderState) (o o' : Outgoing) (read
   queued_good : AreLentIn s (ready_states o.waiting.items ++ ready ∷ []) → IsOutgoing selection s o'
   queued_good lent = record {
     lent = subst (AreLentIn s) (sym waiting_readies) lent;
-    within = subst (λ (ws : List Waiting). AreWithin (length o'.made.items) ws) (sym q.waiting) within_all;
+    within = subst (λ (ws : List CommittedTransaction). AreWithin (length o'.made.items) ws) (sym q.waiting) within_all;
     placed = ap places q.waiting ∙ places_last o.waiting.items last ∙ ap (λ (n : ℕ). n + q.before) good.placed ∙ sym q.placed;
     from = omega (arith, q.from, q.to, good.from);
     to = omega (arith, q.to, size_kept o o' good.from good.to q.frames);
@@ -91,7 +91,7 @@ module _ (selection : PublicationSet) (s : ReorderState) (o o' : Outgoing) (read
       ∙ ap (λ (l : List ℕ). o.front.items ++ (l ++ held_behind selection s o')) (frames_same o o' good.from good.to q.frames q.from q.to)
       ∙ ap (λ (l : List ℕ). o.front.items ++ (frames_left o ++ bytes_behind selection s.strands.pool (reverse l) o'.made.items o'.waiting.items)) q.sent
       ∙ ap (λ (l : List ℕ). o.front.items ++ (frames_left o ++ bytes_behind selection s.strands.pool sent l o'.waiting.items)) q.made
-      ∙ ap (λ (ws : List Waiting). o.front.items ++ (frames_left o ++ bytes_behind selection s.strands.pool sent (o.made.items ++ begin) ws)) q.waiting
+      ∙ ap (λ (ws : List CommittedTransaction). o.front.items ++ (frames_left o ++ bytes_behind selection s.strands.pool sent (o.made.items ++ begin) ws)) q.waiting
       ∙ ap (λ (l : List ℕ). o.front.items ++ (frames_left o ++ l)) bytes_queued
       ∙ regroup o.front.items (frames_left o) (held_behind selection s o) begin (changes_bytes selection (sent_of selection s o) clock published.changes) commit
       ∙ ap (λ (l : List ℕ). held_of selection s o ++ l) (sym block_spelled)
@@ -99,7 +99,7 @@ module _ (selection : PublicationSet) (s : ReorderState) (o o' : Outgoing) (read
   sent_queued : sent_of selection s o' ≡ relations_sent_through (sent_of selection s o) (published ∷ [])
   sent_queued =
       ap (λ (l : List ℕ). sent_behind selection s.strands.pool (reverse l) o'.waiting.items) q.sent
-      ∙ ap (λ (ws : List Waiting). sent_behind selection s.strands.pool sent ws) q.waiting
+      ∙ ap (λ (ws : List CommittedTransaction). sent_behind selection s.strands.pool sent ws) q.waiting
       ∙ sent_last selection s.strands.pool sent o.waiting.items last
 
   pub lent_queued : lent_of s o' ≡ lent_of s o ++ lent_with (ready_chunks s.strands.pool.arena ready) published ∷ []

@@ -1,4 +1,4 @@
--- A frame that is made at once, a head and a message behind it, is the frame of a word; and what it is of the changes' bytes.
+-- A frame that is made at once, a head and a message after it, is the frame of a word; and what it is of the changes' bytes.
 use Rattle.std.proofs.Common.{◌≡◌, ◌≤◌, ◌+◌, ℕ, ℤ, Bool, true, false, cond, List, [], ◌∷◌, ◌++◌, length, take, reverse, refl, sym, ap, subst, ◌∙◌, append_assoc, arith}
 use Rattle.std.specs.Prelude.{◌==◌, ◌||◌}
 use Rattle.std.specs.List.{AllByRecursion, list_any}
@@ -64,7 +64,7 @@ frame_made head room out n size position clock m both is_head within is text =
 
 -- ---- THE FIRST OF THE CHANGES' BYTES
 
--- the Relations that are due behind the first
+-- the Relations that are due after the first
 rest_due : (sent oids : List ℕ) (oid : ℕ) (rest : List ℕ) → relations_due sent oids ≡ oid ∷ rest → relations_due (oid ∷ sent) oids ≡ rest
 rest_due sent [] oid rest e = absurd cc
 rest_due sent (x ∷ oids) oid rest e = by_test (is_relation_sent sent x) refl e (rest_due sent oids oid rest)

@@ -22,7 +22,7 @@ use Rattle.walsender.specs.Lent.{LentTransaction}
 use Rattle.walsender.specs.Outgoing.{HoldsSame, IsFilled, IsOutgoing, frames_left, held_behind, held_of, lent_in, lent_of, sent_of}
 use Rattle.walsender.specs.declared.outgoing.Outgoing.{Outgoing}
 use Rattle.walsender.specs.declared.outgoing.TheConstants.{FRAMES_LENGTH}
-use Rattle.walsender.specs.declared.waiting.Waiting.{Waiting}
+use Rattle.walsender.specs.declared.committed_transaction.CommittedTransaction.{CommittedTransaction}
 use Rattle.walsender.proofs.Lasting.{last_same, last_then, lents_same}
 use Rattle.walsender.proofs.Queueing.{bytes_same, sent_same}
 
@@ -64,18 +64,18 @@ mid_length a k xs ys within is =
 
 -- ---- the first that waits
 
-pub first_is : (ws : List Waiting) (w : Waiting) → 0 < length ws → w ≡ get_or ws 0 w → (rest : List Waiting) × (ws ≡ w ∷ rest) × ((y : Waiting) → slice_set ws 0 y ≡ y ∷ rest)
+pub first_is : (ws : List CommittedTransaction) (w : CommittedTransaction) → 0 < length ws → w ≡ get_or ws 0 w → (rest : List CommittedTransaction) × (ws ≡ w ∷ rest) × ((y : CommittedTransaction) → slice_set ws 0 y ≡ y ∷ rest)
 first_is [] w some is = absurd (omega arith)
-first_is (x ∷ xs) w some is = (xs, ap (λ (y : Waiting). y ∷ xs) (sym is), λ y. refl)
+first_is (x ∷ xs) w some is = (xs, ap (λ (y : CommittedTransaction). y ∷ xs) (sym is), λ y. refl)
 
-abbrev pub less : Waiting → ℕ → Waiting
+abbrev pub less : CommittedTransaction → ℕ → CommittedTransaction
 less w count = record w { before = w.before - count }
 
-abbrev pub moved_to : Waiting → ℕ → Waiting
+abbrev pub moved_to : CommittedTransaction → ℕ → CommittedTransaction
 moved_to w next = record w { next = next }
 
 module _ (selection : PublicationSet) (pool : PoolState) where
-  pub made_moved : (sent made : List ℕ) (w : Waiting) (ws : List Waiting) (count : ℕ) → count ≤ w.before
+  pub made_moved : (sent made : List ℕ) (w : CommittedTransaction) (ws : List CommittedTransaction) (count : ℕ) → count ≤ w.before
       → bytes_behind selection pool sent made (w ∷ ws) ≡ take count made ++ bytes_behind selection pool sent (drop count made) (less w count ∷ ws)
   made_moved sent made w ws count low =
       let changes = bytes_left selection pool sent w in
@@ -85,12 +85,12 @@ module _ (selection : PublicationSet) (pool : PoolState) where
       ∙ ap (λ (l : List ℕ). take count made ++ (take (w.before - count) (drop count made) ++ (changes ++ bytes_behind selection pool next l ws))) (sym (drop_split count w.before made low))
 
   -- where nothing stands before its changes
-  pub bytes_first : (sent made : List ℕ) (w : Waiting) (ws : List Waiting) → w.before ≡ 0
+  pub bytes_first : (sent made : List ℕ) (w : CommittedTransaction) (ws : List CommittedTransaction) → w.before ≡ 0
       → bytes_behind selection pool sent made (w ∷ ws) ≡ bytes_left selection pool sent w ++ bytes_behind selection pool (relations_sent_by_all sent (left_of selection pool w)) made ws
   bytes_first sent made w ws none =
       ap (λ (n : ℕ). take n made ++ (bytes_left selection pool sent w ++ bytes_behind selection pool (relations_sent_by_all sent (left_of selection pool w)) (drop n made) ws)) none
 
-  pub frame_moved : (sent sent' made bytes : List ℕ) (w : Waiting) (ws : List Waiting) (next : ℕ) → w.before ≡ 0
+  pub frame_moved : (sent sent' made bytes : List ℕ) (w : CommittedTransaction) (ws : List CommittedTransaction) (next : ℕ) → w.before ≡ 0
       → Makes selection w.clock (left_of selection pool w) (left_of selection pool (moved_to w next)) sent sent' bytes
       → bytes_behind selection pool sent made (w ∷ ws) ≡ bytes ++ bytes_behind selection pool sent' made (moved_to w next ∷ ws)
   frame_moved sent sent' made bytes w ws next none makes =
@@ -105,7 +105,7 @@ module _ (selection : PublicationSet) (pool : PoolState) where
       ∙ append_assoc bytes here behind
       ∙ ap (λ (l : List ℕ). bytes ++ l) (sym (bytes_first sent' made (moved_to w next) ws none))
 
-  none_left : (w : Waiting) → length w.ready.places ≤ w.next → left_of selection pool w ≡ []
+  none_left : (w : CommittedTransaction) → length w.ready.places ≤ w.next → left_of selection pool w ≡ []
   none_left w over =
       let size : length (ready_entries pool w.ready) ≡ length w.ready.places = length-map w.ready.places _ in
       ap (published_changes selection) (drop_all w.next (ready_entries pool w.ready) (omega (arith, over, size)))
@@ -172,7 +172,7 @@ module _ (selection : PublicationSet) (s : ReorderState) (o o' : Outgoing) (more
   }
 
 -- bytes that were made before the changes of the first that waits
-pub first_moved : (selection : PublicationSet) (s : ReorderState) (o o' : Outgoing) (w : Waiting) (ws : List Waiting) (count : ℕ) → IsOutgoing selection s o → 0 < count → count ≤ w.before
+pub first_moved : (selection : PublicationSet) (s : ReorderState) (o o' : Outgoing) (w : CommittedTransaction) (ws : List CommittedTransaction) (count : ℕ) → IsOutgoing selection s o → 0 < count → count ≤ w.before
     → o.to + count ≤ length o.frames.items → ComesToFrames o o' (take count o.made.items) → o.waiting.items ≡ w ∷ ws → o'.waiting.items ≡ less w count ∷ ws
     → o'.made.items ≡ drop count o.made.items → o'.placed ≡ o.placed - count → o'.relations_sent ≡ o.relations_sent → HoldsSame selection s s o o'
 first_moved selection s o o' w ws count good some low room comes is is' made placed relations =
@@ -197,9 +197,9 @@ first_moved selection s o o' w ws count good some low room comes is is' made pla
     (ap places is' ∙ omega (arith, placed_is, placed, low))
     full
     (subst (AreSelected selection) (sym sent_is) good.sent)
-    (λ more. subst (λ (r : _). length (selected_oids selection) ≤ vec_capacity r) (sym relations) (good.capacity (subst (λ (l : List Waiting). 0 < length l) (sym is) (omega arith))))
+    (λ more. subst (λ (r : _). length (selected_oids selection) ≤ vec_capacity r) (sym relations) (good.capacity (subst (λ (l : List CommittedTransaction). 0 < length l) (sym is) (omega arith))))
 
--- bytes that were made behind all changes
+-- bytes that were made after all changes
 pub last_moved : (selection : PublicationSet) (s : ReorderState) (o o' : Outgoing) (count : ℕ) → IsOutgoing selection s o → length o.frames.items ≡ FRAMES_LENGTH
     → ComesToFrames o o' (take count o.made.items) → o.waiting.items ≡ [] → o'.waiting ≡ o.waiting → o'.made.items ≡ drop count o.made.items → o'.placed ≡ o.placed → o'.relations_sent ≡ o.relations_sent
     → HoldsSame selection s s o o'
@@ -218,10 +218,10 @@ last_moved selection s o o' count good room comes is waiting made placed relatio
     (ap (λ (q : _). places q.items) waiting ∙ good.placed ∙ sym placed)
     (comes.size ∙ room)
     (subst (AreSelected selection) (sym sent_is) good.sent)
-    (λ more. absurd (omega (arith, more, ap (length {A = Waiting}) is')))
+    (λ more. absurd (omega (arith, more, ap (length {A = CommittedTransaction}) is')))
 
 -- the next frame of the first that waits
-pub frame_made : (selection : PublicationSet) (s : ReorderState) (o o' : Outgoing) (w : Waiting) (ws : List Waiting) (next : ℕ) (bytes : List ℕ) → IsOutgoing selection s o → w.before ≡ 0
+pub frame_made : (selection : PublicationSet) (s : ReorderState) (o o' : Outgoing) (w : CommittedTransaction) (ws : List CommittedTransaction) (next : ℕ) (bytes : List ℕ) → IsOutgoing selection s o → w.before ≡ 0
     → length o.frames.items ≡ FRAMES_LENGTH → ComesToFrames o o' bytes → o.waiting.items ≡ w ∷ ws → o'.waiting.items ≡ moved_to w next ∷ ws
     → o'.made.items ≡ o.made.items → o'.placed ≡ o.placed
     → Makes selection w.clock (left_of selection s.strands.pool w) (left_of selection s.strands.pool (moved_to w next)) (reverse o.relations_sent.items) (reverse o'.relations_sent.items) bytes
@@ -243,10 +243,10 @@ frame_made selection s o o' w ws next bytes good none room comes is is' made pla
     (ap places is' ∙ ap places (sym is) ∙ good.placed ∙ sym placed)
     (comes.size ∙ room)
     selected
-    (λ more. let low = good.capacity (subst (λ (l : List Waiting). 0 < length l) (sym is) (omega arith)) in omega (arith, low, capacity))
+    (λ more. let low = good.capacity (subst (λ (l : List CommittedTransaction). 0 < length l) (sym is) (omega arith)) in omega (arith, low, capacity))
 
 -- the first has no change left: its Commit is made, and it waits no more
-pub first_over : (selection : PublicationSet) (s s' : ReorderState) (o o' : Outgoing) (w : Waiting) → IsOutgoing selection s o → o.waiting.items ≡ w ∷ o'.waiting.items → w.before ≡ 0 → length w.ready.places ≤ w.next
+pub first_over : (selection : PublicationSet) (s s' : ReorderState) (o o' : Outgoing) (w : CommittedTransaction) → IsOutgoing selection s o → o.waiting.items ≡ w ∷ o'.waiting.items → w.before ≡ 0 → length w.ready.places ≤ w.next
     → length o.frames.items ≡ FRAMES_LENGTH → ComesToFrames o o' (commit_bytes w.clock w.header) → s' ≡ after_giving_back s w.ready
     → o'.made.items ≡ o.made.items → o'.placed ≡ o.placed → o'.relations_sent ≡ o.relations_sent → HoldsSame selection s s' o o'
 first_over selection s s' o o' w good is none over room comes back made placed relations =
@@ -255,7 +255,7 @@ first_over selection s s' o o' w good is none over room comes back made placed r
     let ws = o'.waiting.items in
     let sent = reverse o.relations_sent.items in
     let commit = commit_bytes w.clock w.header in
-    let lent : AreLentIn s (w.ready ∷ ready_states ws) = subst (λ (l : List Waiting). AreLentIn s (ready_states l)) is good.lent in
+    let lent : AreLentIn s (w.ready ∷ ready_states ws) = subst (λ (l : List CommittedTransaction). AreLentIn s (ready_states l)) is good.lent in
     let later = entries_given_back s s' w.ready (ready_states ws) lent back in
     let within : AreWithin (length o.made.items) (w ∷ ws) = subst (AreWithin (length o.made.items)) is good.within in
     let size : length o'.made.items ≡ length o.made.items = ap (length {A = ℕ}) made in
@@ -283,7 +283,7 @@ first_over selection s s' o o' w good is none over room comes back made placed r
         to = comes.high;
         room = inl (comes.size ∙ room);
         sent = subst (AreSelected selection) (sym sent_is) good.sent;
-        capacity = λ more. subst (λ (r : _). length (selected_oids selection) ≤ vec_capacity r) (sym relations) (good.capacity (subst (λ (l : List Waiting). 0 < length l) (sym is) (omega arith)));
+        capacity = λ more. subst (λ (r : _). length (selected_oids selection) ≤ vec_capacity r) (sym relations) (good.capacity (subst (λ (l : List CommittedTransaction). 0 < length l) (sym is) (omega arith)));
       };
       held =
           ap (λ (l : List ℕ). l ++ (frames_left o' ++ held_behind selection s' o')) comes.front
@@ -291,7 +291,7 @@ first_over selection s s' o o' w good is none over room comes back made placed r
           ∙ ap (λ (l : List ℕ). o.front.items ++ l) (append_assoc (frames_left o) commit (held_behind selection s' o'))
           ∙ ap (λ (l : List ℕ). o.front.items ++ (frames_left o ++ l)) (sym behind);
       sent = ap (λ (l : List ℕ). sent_behind selection pool' l ws) sent_is ∙ sent_same selection pool pool' sent ws later.1 ∙ sym names ∙ sym (ap (sent_behind selection pool sent) is);
-      settled = ap (λ (t : ReorderState). after_giving_all_back t (ready_states ws)) back ∙ sym (ap (λ (l : List Waiting). after_giving_all_back s (ready_states l)) is);
+      settled = ap (λ (t : ReorderState). after_giving_all_back t (ready_states ws)) back ∙ sym (ap (λ (l : List CommittedTransaction). after_giving_all_back s (ready_states l)) is);
       lent = (
         lent_in pool.arena w ∷ [],
         ap (map (lent_in pool.arena)) is ∙ ap (λ (l : List LentTransaction). lent_in pool.arena w ∷ l) (sym (lents_same pool.arena pool'.arena ws (chunks_each_given_back s s' w.ready (ready_states ws) lent back))),

@@ -36,7 +36,7 @@ length-keepalive : (end : ℕ) (clock : ℤ) (ask : Bool) → length (keepalive 
 length-keepalive end clock ask =
     omega (arith, length-int64 end, length-int64 (cast_unsigned w64 clock), length-append (int64 end) (int64 (cast_unsigned w64 clock) ++ (ask_byte ask ∷ [])), length-append (int64 (cast_unsigned w64 clock)) (ask_byte ask ∷ []))
 
--- a body behind its head
+-- a body after its head
 behind_head : (old headed whole body : List ℕ) (n : ℕ) → n ≡ length body → headed ≡ old ++ (COPY_DATA ∷ int32 (4 + n)) → whole ≡ headed ++ body → whole ≡ old ++ (COPY_DATA ∷ (int32 (4 + length body) ++ body))
 behind_head old headed whole body n len head tail =
     tail ∙ ap (λ (l : List ℕ). l ++ body) head ∙ append_assoc old (COPY_DATA ∷ int32 (4 + n)) body ∙ ap (λ (k : ℕ). old ++ (COPY_DATA ∷ (int32 (4 + k) ++ body))) len

@@ -42,7 +42,7 @@ module _ (selection : PublicationSet) (old new : ReorderState) (o o' : Outgoing)
       (⊎_elim (λ (none : o'.waiting.items ≡ []). inl (ap ready_states none)) (λ (free : HasFreeChunk new). inr free) way)
       then same.good.lent (tidy_then count tidy) (full then (tidy_then count tidy))
 
-  -- what is read behind the same is read behind what it was
+  -- what is read after the same is read after what it was
   pub read_behind : (clock : ℤ) (start position : ℕ) (failed : Bool) (r : Record) (last : SenderState)
       → ReadOne clock (state selection start position failed (held_of selection new o') (sent_of selection new o') (settled_of new o') (lent_of new o')) last r
       → ReadOne clock (state selection start position failed (held_of selection old o) (sent_of selection old o) (settled_of old o) (lent_of old o)) last r

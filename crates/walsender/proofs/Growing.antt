@@ -11,7 +11,7 @@ use Rattle.walsender.specs.Waiting.{AreSelected, AreWithin, bytes_behind, places
 use Rattle.walsender.specs.Outgoing.{AddsBytes, HasRoom, IsOutgoing, IsSameQueue, IsSized, frames_left, held_behind, held_of, lent_in, lent_of, sent_of, settled_of}
 use Rattle.walsender.specs.declared.outgoing.Outgoing.{Outgoing}
 use Rattle.walsender.specs.declared.outgoing.TheConstants.{FRAMES_LENGTH}
-use Rattle.walsender.specs.declared.waiting.Waiting.{Waiting}
+use Rattle.walsender.specs.declared.committed_transaction.CommittedTransaction.{CommittedTransaction}
 use Rattle.walsender.proofs.Queueing.{bytes_more, within_more}
 
 -- ---- frames that there was no room for
@@ -57,30 +57,30 @@ module _ (selection : PublicationSet) (s : ReorderState) (o o' : Outgoing) (good
       ap (λ (l : List ℕ). l ++ (frames_left o' ++ held_behind selection s o')) rest.front
       ∙ ap (λ (l : List ℕ). o.front.items ++ (l ++ held_behind selection s o')) (frames_same o o' good.from good.to sized rest.from rest.to)
       ∙ ap (λ (l : List ℕ). o.front.items ++ (frames_left o ++ bytes_behind selection s.strands.pool (reverse l) o'.made.items o'.waiting.items)) rest.sent
-      ∙ ap (λ (ws : List Waiting). o.front.items ++ (frames_left o ++ bytes_behind selection s.strands.pool (reverse o.relations_sent.items) o'.made.items ws)) rest.waiting
+      ∙ ap (λ (ws : List CommittedTransaction). o.front.items ++ (frames_left o ++ bytes_behind selection s.strands.pool (reverse o.relations_sent.items) o'.made.items ws)) rest.waiting
       ∙ ap (λ (l : List ℕ). o.front.items ++ (frames_left o ++ behind l)) is
 
   pub sent_kept : sent_of selection s o' ≡ sent_of selection s o
   sent_kept =
       ap (λ (l : List ℕ). sent_behind selection s.strands.pool (reverse l) o'.waiting.items) rest.sent
-      ∙ ap (λ (ws : List Waiting). sent_behind selection s.strands.pool (reverse o.relations_sent.items) ws) rest.waiting
+      ∙ ap (λ (ws : List CommittedTransaction). sent_behind selection s.strands.pool (reverse o.relations_sent.items) ws) rest.waiting
 
   pub lent_kept : lent_of s o' ≡ lent_of s o
   lent_kept = ap (map (lent_in s.strands.pool.arena)) rest.waiting
 
   pub settled_kept : settled_of s o' ≡ settled_of s o
-  settled_kept = ap (λ (ws : List Waiting). after_giving_all_back s (ready_states ws)) rest.waiting
+  settled_kept = ap (λ (ws : List CommittedTransaction). after_giving_all_back s (ready_states ws)) rest.waiting
 
   good_as : AreWithin (length o'.made.items) o.waiting.items → HasRoom o' → IsOutgoing selection s o'
   good_as within room = record {
-    lent = subst (λ (ws : List Waiting). AreLentIn s (ready_states ws)) (sym rest.waiting) good.lent;
-    within = subst (λ (ws : List Waiting). AreWithin (length o'.made.items) ws) (sym rest.waiting) within;
+    lent = subst (λ (ws : List CommittedTransaction). AreLentIn s (ready_states ws)) (sym rest.waiting) good.lent;
+    within = subst (λ (ws : List CommittedTransaction). AreWithin (length o'.made.items) ws) (sym rest.waiting) within;
     placed = ap places rest.waiting ∙ good.placed ∙ sym rest.placed;
     from = omega (arith, rest.from, rest.to, good.from);
     to = omega (arith, rest.to, size_kept o o' good.from good.to sized);
     room = room;
     sent = subst (λ (l : List ℕ). AreSelected selection (reverse l)) (sym rest.sent) good.sent;
-    capacity = λ some. let low = good.capacity (subst (λ (ws : List Waiting). 0 < length ws) rest.waiting some) in omega (arith, low, rest.capacity);
+    capacity = λ some. let low = good.capacity (subst (λ (ws : List CommittedTransaction). 0 < length ws) rest.waiting some) in omega (arith, low, rest.capacity);
   }
 
   pub stays : o'.made.items ≡ o.made.items → IsOutgoing selection s o' × (held_of selection s o' ≡ held_of selection s o)

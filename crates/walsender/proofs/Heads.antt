@@ -1,4 +1,4 @@
--- The frame of a change, as it is made: its head, and the message behind it.
+-- The frame of a change, as it is made: its head, and the message after it.
 use Rattle.std.proofs.Common.{◌≡◌, ℕ, Bool, true, false, List, [], ◌∷◌, ◌++◌, refl, ap, ◌∙◌, append_assoc}
 use Rattle.std.specs.Prelude.{◌||◌}
 

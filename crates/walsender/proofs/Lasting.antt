@@ -26,7 +26,7 @@ use Rattle.walsender.specs.Published.{has_message, published_as}
 use Rattle.walsender.specs.Sending.{published_by_record, sent_by_record}
 use Rattle.walsender.specs.Waiting.{bytes_behind, changes_bytes, commit_bytes, left_of, ready_states}
 use Rattle.walsender.specs.declared.outgoing.Outgoing.{Outgoing}
-use Rattle.walsender.specs.declared.waiting.Waiting.{Waiting}
+use Rattle.walsender.specs.declared.committed_transaction.CommittedTransaction.{CommittedTransaction}
 
 -- ---- the last ones
 
@@ -41,7 +41,7 @@ last_same all some same = ([], sym same)
 
 -- ---- those that wait
 
-pub lents_same : (arena arena' : Arena) (ws : List Waiting) → map (ready_chunks arena') (ready_states ws) ≡ map (ready_chunks arena) (ready_states ws) → map (lent_in arena') ws ≡ map (lent_in arena) ws
+pub lents_same : (arena arena' : Arena) (ws : List CommittedTransaction) → map (ready_chunks arena') (ready_states ws) ≡ map (ready_chunks arena) (ready_states ws) → map (lent_in arena') ws ≡ map (lent_in arena) ws
 lents_same arena arena' [] same = refl
 lents_same arena arena' (w ∷ ws) same =
     ap (λ (n : ℕ). record { commit = record { position = w.header.start; end = w.header.end; time = w.header.time }; chunks = n } ∷ map (lent_in arena') ws) (heads same)
@@ -54,7 +54,7 @@ lents_same arena arena' (w ∷ ws) same =
     tails e = cc
 
 -- they take the chunks of what is ready
-pub lent_sum : (s : ReorderState) (ws : List Waiting) → sum_by (λ (t : LentTransaction). t.chunks) (map (lent_in s.strands.pool.arena) ws) ≡ lent_chunks s (ready_states ws)
+pub lent_sum : (s : ReorderState) (ws : List CommittedTransaction) → sum_by (λ (t : LentTransaction). t.chunks) (map (lent_in s.strands.pool.arena) ws) ≡ lent_chunks s (ready_states ws)
 lent_sum s [] = refl
 lent_sum s (w ∷ ws) =
     let arena = s.strands.pool.arena in
@@ -62,7 +62,7 @@ lent_sum s (w ∷ ws) =
     omega (arith, rest, sum_by-cons (λ (t : LentTransaction). t.chunks) (lent_in arena w) (map (lent_in arena) ws), sum_by-cons (λ (ready : ReadyState). ready_chunks arena ready) w.ready (ready_states ws))
 
 -- each one's Commit is among the bytes that are held
-commits_held : (selection : PublicationSet) (pool : PoolState) (front sent made : List ℕ) (ws : List Waiting) → AreHeld (front ++ bytes_behind selection pool sent made ws) (map (lent_in pool.arena) ws)
+commits_held : (selection : PublicationSet) (pool : PoolState) (front sent made : List ℕ) (ws : List CommittedTransaction) → AreHeld (front ++ bytes_behind selection pool sent made ws) (map (lent_in pool.arena) ws)
 commits_held selection pool front sent made [] = tt
 commits_held selection pool front sent made (w ∷ ws) =
     let before = take w.before made in

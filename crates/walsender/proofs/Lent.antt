@@ -15,7 +15,7 @@ use Rattle.reorder.proofs.Filling.{chunks_each_given_back, chunks_each_lent, set
 use Rattle.walsender.specs.Waiting.{bytes_behind, ready_states}
 use Rattle.walsender.specs.Outgoing.{IsOutgoing, frames_left, held_behind, held_of, lent_of, sent_of}
 use Rattle.walsender.specs.declared.outgoing.Outgoing.{Outgoing}
-use Rattle.walsender.specs.declared.waiting.Waiting.{Waiting}
+use Rattle.walsender.specs.declared.committed_transaction.CommittedTransaction.{CommittedTransaction}
 use Rattle.walsender.proofs.Emptied.{none_held}
 use Rattle.walsender.proofs.Lasting.{lents_same}
 use Rattle.walsender.proofs.Queueing.{bytes_low, bytes_same, sent_same, waits_some}
@@ -106,11 +106,11 @@ holds_as selection s o good = by_tests (length o.front.items == 0) refl (nat_lt 
     low : length o.made.items ≤ length behind
     low = bytes_low selection s.strands.pool (reverse o.relations_sent.items) o.made.items o.waiting.items good.within
 
-    some_behind : (ws : List Waiting) → o.waiting.items ≡ ws → (length ws == 0) ≡ false → 0 < length behind
+    some_behind : (ws : List CommittedTransaction) → o.waiting.items ≡ ws → (length ws == 0) ≡ false → 0 < length behind
     some_behind [] is never = absurd (let f : true ≡ false = never in cc)
     some_behind (w ∷ ws) is never =
         let long : length behind ≡ length (bytes_behind selection s.strands.pool (reverse o.relations_sent.items) o.made.items (w ∷ ws)) =
-        ap (λ (l : List Waiting). length (bytes_behind selection s.strands.pool (reverse o.relations_sent.items) o.made.items l)) is in
+        ap (λ (l : List CommittedTransaction). length (bytes_behind selection s.strands.pool (reverse o.relations_sent.items) o.made.items l)) is in
         omega (arith, long, waits_some selection s.strands.pool (reverse o.relations_sent.items) o.made.items w ws)
 
     some : 0 < length (held_of selection s o) → true ≡ not (length (held_of selection s o) == 0)

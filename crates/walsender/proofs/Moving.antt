@@ -12,7 +12,7 @@ use Rattle.walsender.proofs.Emptied.{empty_is}
 use Rattle.walsender.specs.Waiting.{bytes_behind}
 use Rattle.walsender.specs.Outgoing.{HoldsSame, IsOutgoing, MovesOut, frames_left, held_behind, held_of, lent_of}
 use Rattle.walsender.specs.declared.outgoing.Outgoing.{Outgoing}
-use Rattle.walsender.specs.declared.waiting.Waiting.{Waiting}
+use Rattle.walsender.specs.declared.committed_transaction.CommittedTransaction.{CommittedTransaction}
 use Rattle.walsender.proofs.Lasting.{last_then}
 use Rattle.walsender.proofs.Queueing.{waits_some}
 
@@ -90,16 +90,16 @@ module _ (selection : PublicationSet) (s : ReorderState) (o o' : Outgoing) (good
   pub front_low : length o.front.items ≤ length (held_of selection s o)
   front_low = omega (arith, length-append o.front.items (frames_left o ++ held_behind selection s o))
 
-  -- ---- what waits has bytes behind the front
+  -- ---- what waits has bytes after the front
 
   pub behind_waits : 0 < length o.waiting.items → length o.front.items < length (held_of selection s o)
   behind_waits some = by_list o.waiting.items refl some
     where
-      by_list : (ws : List Waiting) → o.waiting.items ≡ ws → 0 < length ws → length o.front.items < length (held_of selection s o)
+      by_list : (ws : List CommittedTransaction) → o.waiting.items ≡ ws → 0 < length ws → length o.front.items < length (held_of selection s o)
       by_list [] is some = absurd (omega (arith, some))
       by_list (w ∷ ws) is some =
           let long : length (held_behind selection s o) ≡ length (bytes_behind selection s.strands.pool (reverse o.relations_sent.items) o.made.items (w ∷ ws)) =
-          ap (λ (l : List Waiting). length (bytes_behind selection s.strands.pool (reverse o.relations_sent.items) o.made.items l)) is in
+          ap (λ (l : List CommittedTransaction). length (bytes_behind selection s.strands.pool (reverse o.relations_sent.items) o.made.items l)) is in
           omega (
             arith,
             long,
@@ -225,7 +225,7 @@ written_more selection s s' o o' o'' known known' known'' more w none low given 
 
 -- ---- gathered
 
--- what is held behind the front gets less where something waits
+-- what is held after the front gets less where something waits
 pub falls : (selection : PublicationSet) (s s' : ReorderState) (o o' : Outgoing) (b : Bool) → IsOutgoing selection s o → HoldsSame selection s s' o o' → 0 < length o.waiting.items
     → MatchBool b (length o.front.items < length o'.front.items) (held_of selection s' o' ≡ o'.front.items)
     → length (held_of selection s' o') - length o'.front.items < length (held_of selection s o) - length o.front.items

@@ -1,4 +1,4 @@
--- A note comes behind what is held.
+-- A note comes after what is held.
 use Rattle.std.proofs.Common.{◌≡◌, ℕ, ℤ, List, [], ◌∷◌, ◌++◌, Option, Some, None, Result, Ok, Err, take, refl, sym, ap, ◌∙◌}
 use Rattle.std.specs.declared.alloc.AllocError.{AllocError}
 use Rattle.pgoutput.specs.declared.logical.Logical.{Logical}

@@ -10,11 +10,11 @@ use Rattle.walsender.specs.Outgoing.{HoldsSame, IsFilled, IsOutgoing}
 use Rattle.walsender.specs.Waiting.{AreSelected, Makes, left_of}
 use Rattle.walsender.specs.declared.outgoing.Outgoing.{Outgoing}
 use Rattle.walsender.specs.declared.outgoing.TheConstants.{FRAMES_LENGTH}
-use Rattle.walsender.specs.declared.waiting.Waiting.{Waiting}
+use Rattle.walsender.specs.declared.committed_transaction.CommittedTransaction.{CommittedTransaction}
 use Rattle.walsender.proofs.Frames.{ComesToFrames, frame_made, mid_length, mid_taken, moved_to}
 
 -- what of the fields is as it was, and what came to them
-pub record IsPlaced (o o' : Outgoing) (w : Waiting) (ws : List Waiting) (size count : ℕ) (xs out : List ℕ) : Type 0 where
+pub record IsPlaced (o o' : Outgoing) (w : CommittedTransaction) (ws : List CommittedTransaction) (size count : ℕ) (xs out : List ℕ) : Type 0 where
   pub front : o'.front ≡ o.front
   pub from : o'.from ≡ o.from
   pub to : o'.to ≡ o.to + count
@@ -23,7 +23,7 @@ pub record IsPlaced (o o' : Outgoing) (w : Waiting) (ws : List Waiting) (size co
   pub made : o'.made ≡ o.made
   pub placed : o'.placed ≡ o.placed
 
-module _ (selection : PublicationSet) (s : ReorderState) (o o' : Outgoing) (w w' : Waiting) (ws : List Waiting) (size count : ℕ) (xs out : List ℕ) (good : IsOutgoing selection s o) (none : w.before ≡ 0)
+module _ (selection : PublicationSet) (s : ReorderState) (o o' : Outgoing) (w w' : CommittedTransaction) (ws : List CommittedTransaction) (size count : ℕ) (xs out : List ℕ) (good : IsOutgoing selection s o) (none : w.before ≡ 0)
     (room : length o.frames.items ≡ FRAMES_LENGTH) (value : xs ≡ o.frames.items) (within : o.to + size ≤ length o.frames.items) (long : length out ≡ size) (low : count ≤ size) (is : o.waiting.items ≡ w ∷ ws)
     (is' : IsPlaced o o' w' ws size count xs out) where
   abbrev mid : List ℕ
@@ -61,12 +61,12 @@ module _ (selection : PublicationSet) (s : ReorderState) (o o' : Outgoing) (w w'
   made_in_place moves makes selected capacity =
       let sent = reverse o.relations_sent.items in
       let sent' = reverse o'.relations_sent.items in
-      let told = subst (λ (x : Waiting). Makes selection w.clock (left_of selection s.strands.pool w) (left_of selection s.strands.pool x) sent sent' (take count out)) moves makes in
-      frame_made selection s o o' w ws w'.next (take count out) good none room comes is (is'.waiting ∙ ap (λ (y : Waiting). y ∷ ws) moves) (ap (λ (b : _). b.items) is'.made) is'.placed told selected capacity
+      let told = subst (λ (x : CommittedTransaction). Makes selection w.clock (left_of selection s.strands.pool w) (left_of selection s.strands.pool x) sent sent' (take count out)) moves makes in
+      frame_made selection s o o' w ws w'.next (take count out) good none room comes is (is'.waiting ∙ ap (λ (y : CommittedTransaction). y ∷ ws) moves) (ap (λ (b : _). b.items) is'.made) is'.placed told selected capacity
 
-  -- and frames came behind those that there were
+  -- and frames came after those that there were
   pub filled_in_place : IsFilled o o'
   filled_in_place = record { front = is'.front; from = is'.from; low = comes.low; high = comes.high; size = full }
 
-pub same_first : (x y : Waiting) (xs ys : List Waiting) → x ∷ xs ≡ y ∷ ys → x ≡ y
+pub same_first : (x y : CommittedTransaction) (xs ys : List CommittedTransaction) → x ∷ xs ≡ y ∷ ys → x ≡ y
 same_first x y xs ys is = cc

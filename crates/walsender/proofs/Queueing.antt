@@ -1,4 +1,4 @@
--- What is added to what is on its way out comes behind it.
+-- What is added to what is on its way out comes after it.
 use Rattle.std.proofs.Common.{◌≡◌, ◌<◌, ◌≤◌, ℕ, ◌+◌, ◌-◌, zero, suc, List, [], ◌∷◌, ◌++◌, drop, length, map, take, refl, sym, ap, subst, ◌∙◌, append_assoc, append-nil, arith}
 use Rattle.std.proofs.lemmas.List.{length-append, length-drop, length-take}
 use Rattle.publication.specs.Publications.{PublicationSet}
@@ -8,7 +8,7 @@ use Rattle.pgoutput.specs.declared.published.PublishedChange.{PublishedChange}
 use Rattle.pgoutput.specs.Items.{relations_sent_by_all}
 use Rattle.walsender.specs.Published.{published_changes}
 use Rattle.walsender.specs.Waiting.{AreWithin, bytes_behind, bytes_left, changes_bytes, commit_bytes, left_of, places, ready_states, sent_behind}
-use Rattle.walsender.specs.declared.waiting.Waiting.{Waiting}
+use Rattle.walsender.specs.declared.committed_transaction.CommittedTransaction.{CommittedTransaction}
 
 -- ---- lists
 
@@ -24,29 +24,29 @@ take_front (suc n) (x ∷ xs) ys low = ap (λ l. x ∷ l) (take_front n xs ys (o
 
 -- ---- places
 
-pub within_more : (made more : ℕ) (ws : List Waiting) → AreWithin made ws → AreWithin (made + more) ws
+pub within_more : (made more : ℕ) (ws : List CommittedTransaction) → AreWithin made ws → AreWithin (made + more) ws
 within_more made more [] w = tt
 within_more made more (x ∷ ws) w =
     let same : (made + more) - x.before ≡ (made - x.before) + more = let low = w.0 in omega arith in
     (let low = w.0 in omega arith, subst (λ (n : ℕ). AreWithin n ws) (sym same) (within_more (made - x.before) more ws w.1))
 
-pub within_last : (made : ℕ) (ws : List Waiting) (w : Waiting) → AreWithin made ws → places ws + w.before ≤ made → AreWithin made (ws ++ w ∷ [])
+pub within_last : (made : ℕ) (ws : List CommittedTransaction) (w : CommittedTransaction) → AreWithin made ws → places ws + w.before ≤ made → AreWithin made (ws ++ w ∷ [])
 within_last made [] w a low = (omega arith, tt)
 within_last made (x ∷ ws) w a low = (a.0, within_last (made - x.before) ws w a.1 (let l = a.0 in omega arith))
 
-pub places_last : (ws : List Waiting) (w : Waiting) → places (ws ++ w ∷ []) ≡ places ws + w.before
+pub places_last : (ws : List CommittedTransaction) (w : CommittedTransaction) → places (ws ++ w ∷ []) ≡ places ws + w.before
 places_last [] w = omega arith
 places_last (x ∷ ws) w = let rest = places_last ws w in omega arith
 
-pub places_low : (made : ℕ) (ws : List Waiting) → AreWithin made ws → places ws ≤ made
+pub places_low : (made : ℕ) (ws : List CommittedTransaction) → AreWithin made ws → places ws ≤ made
 places_low made [] w = omega arith
 places_low made (x ∷ ws) w = let rest = places_low (made - x.before) ws w.1 in let low = w.0 in omega arith
 
--- ---- bytes behind bytes
+-- ---- bytes after bytes
 
 module _ (selection : PublicationSet) (pool : PoolState) where
-  -- bytes more come behind all
-  pub bytes_more : (sent made more : List ℕ) (ws : List Waiting) → AreWithin (length made) ws → bytes_behind selection pool sent (made ++ more) ws ≡ bytes_behind selection pool sent made ws ++ more
+  -- bytes more come after all
+  pub bytes_more : (sent made more : List ℕ) (ws : List CommittedTransaction) → AreWithin (length made) ws → bytes_behind selection pool sent (made ++ more) ws ≡ bytes_behind selection pool sent made ws ++ more
   bytes_more sent made more [] w = refl
   bytes_more sent made more (x ∷ ws) w =
       let low : x.before ≤ length made = w.0 in
@@ -61,7 +61,7 @@ module _ (selection : PublicationSet) (pool : PoolState) where
       ∙ sym (append_assoc (take x.before made) (changes ++ behind) more)
 
   -- at least all that is made
-  pub bytes_low : (sent made : List ℕ) (ws : List Waiting) → AreWithin (length made) ws → length made ≤ length (bytes_behind selection pool sent made ws)
+  pub bytes_low : (sent made : List ℕ) (ws : List CommittedTransaction) → AreWithin (length made) ws → length made ≤ length (bytes_behind selection pool sent made ws)
   bytes_low sent made [] w = omega arith
   bytes_low sent made (x ∷ ws) w =
       let low : x.before ≤ length made = w.0 in
@@ -73,7 +73,7 @@ module _ (selection : PublicationSet) (pool : PoolState) where
       omega (arith, length-append (take x.before made) (changes ++ behind), length-append changes behind, length-take x.before made)
 
   -- at least a Commit, where something waits
-  pub waits_some : (sent made : List ℕ) (w : Waiting) (ws : List Waiting) → 0 < length (bytes_behind selection pool sent made (w ∷ ws))
+  pub waits_some : (sent made : List ℕ) (w : CommittedTransaction) (ws : List CommittedTransaction) → 0 < length (bytes_behind selection pool sent made (w ∷ ws))
   waits_some sent made w ws =
       let commit = commit_bytes w.clock w.header in
       let changes = changes_bytes selection sent w.clock (left_of selection pool w) in
@@ -81,8 +81,8 @@ module _ (selection : PublicationSet) (pool : PoolState) where
       let some : 0 < length commit = omega arith in
       omega (arith, some, length-append (take w.before made) ((changes ++ commit) ++ rest), length-append (changes ++ commit) rest, length-append changes commit)
 
-  -- a transaction that waits behind all, where all that is made stands before it
-  pub bytes_last : (sent made : List ℕ) (ws : List Waiting) (w : Waiting) → AreWithin (length made) ws → places ws + w.before ≡ length made
+  -- a transaction that waits after all, where all that is made stands before it
+  pub bytes_last : (sent made : List ℕ) (ws : List CommittedTransaction) (w : CommittedTransaction) → AreWithin (length made) ws → places ws + w.before ≡ length made
       → bytes_behind selection pool sent made (ws ++ w ∷ []) ≡ bytes_behind selection pool sent made ws ++ bytes_left selection pool (sent_behind selection pool sent ws) w
   bytes_last sent made [] w within is =
       let whole : w.before ≡ length made = omega arith in
@@ -108,17 +108,17 @@ module _ (selection : PublicationSet) (pool : PoolState) where
       let rest = bytes_last next (drop x.before made) ws w (subst (λ (n : ℕ). AreWithin n ws) (sym size) within.1) (omega (arith, size, is, low)) in
       ap (λ (l : List ℕ). take x.before made ++ (changes ++ l)) rest ∙ ap (λ (l : List ℕ). take x.before made ++ l) (sym (append_assoc changes behind last)) ∙ sym (append_assoc (take x.before made) (changes ++ behind) last)
 
-  pub sent_last : (sent : List ℕ) (ws : List Waiting) (w : Waiting) → sent_behind selection pool sent (ws ++ w ∷ []) ≡ relations_sent_by_all (sent_behind selection pool sent ws) (left_of selection pool w)
+  pub sent_last : (sent : List ℕ) (ws : List CommittedTransaction) (w : CommittedTransaction) → sent_behind selection pool sent (ws ++ w ∷ []) ≡ relations_sent_by_all (sent_behind selection pool sent ws) (left_of selection pool w)
   sent_last sent [] w = refl
   sent_last sent (x ∷ ws) w = sent_last (relations_sent_by_all sent (left_of selection pool x)) ws w
 
 -- ---- the same changes, where they lie
 
 module _ (selection : PublicationSet) (pool pool' : PoolState) where
-  left_same : (w : Waiting) → ready_entries pool' w.ready ≡ ready_entries pool w.ready → left_of selection pool' w ≡ left_of selection pool w
+  left_same : (w : CommittedTransaction) → ready_entries pool' w.ready ≡ ready_entries pool w.ready → left_of selection pool' w ≡ left_of selection pool w
   left_same w same = ap (λ es. published_changes selection (drop w.next es)) same
 
-  pub bytes_same : (sent made : List ℕ) (ws : List Waiting) → map (ready_entries pool') (ready_states ws) ≡ map (ready_entries pool) (ready_states ws) → bytes_behind selection pool' sent made ws ≡ bytes_behind selection pool sent made ws
+  pub bytes_same : (sent made : List ℕ) (ws : List CommittedTransaction) → map (ready_entries pool') (ready_states ws) ≡ map (ready_entries pool) (ready_states ws) → bytes_behind selection pool' sent made ws ≡ bytes_behind selection pool sent made ws
   bytes_same sent made [] same = refl
   bytes_same sent made (w ∷ ws) same =
       let here = left_same w (heads same) in
@@ -131,7 +131,7 @@ module _ (selection : PublicationSet) (pool pool' : PoolState) where
       tails : {A : Type 0} {x y : A} {xs ys : List A} → x ∷ xs ≡ y ∷ ys → xs ≡ ys
       tails e = cc
 
-  pub sent_same : (sent : List ℕ) (ws : List Waiting) → map (ready_entries pool') (ready_states ws) ≡ map (ready_entries pool) (ready_states ws) → sent_behind selection pool' sent ws ≡ sent_behind selection pool sent ws
+  pub sent_same : (sent : List ℕ) (ws : List CommittedTransaction) → map (ready_entries pool') (ready_states ws) ≡ map (ready_entries pool) (ready_states ws) → sent_behind selection pool' sent ws ≡ sent_behind selection pool sent ws
   sent_same sent [] same = refl
   sent_same sent (w ∷ ws) same =
       ap (λ (cs : List PublishedChange). sent_behind selection pool' (relations_sent_by_all sent cs) ws) (left_same w (heads same)) ∙ sent_same (relations_sent_by_all sent (left_of selection pool w)) ws (tails same)

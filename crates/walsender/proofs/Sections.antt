@@ -39,7 +39,7 @@ starts_below at (r ∷ before) goes sized =
     let inner = starts_below r.end before next.1 sized.1 in
     (omega (arith, next.0, sized.0, inner.0), (omega (arith, next.0, sized.0, inner.0), inner.1))
 
--- Records `skipped`, `before` and `rs` of a log: behind `before` the others may follow, whatever was skipped.
+-- Records `skipped`, `before` and `rs` of a log: after `before` the others may follow, whatever was skipped.
 pub may_follow : (at : ℕ) (skipped before rs : List Record) → follows at (before ++ rs) ≡ true → AllByRecursion IsSized (before ++ rs) → WellFormedAfter skipped (before ++ rs) → MayFollow before rs
 may_follow at skipped before [] goes sized order = tt
 may_follow at skipped before (r ∷ rs) goes sized order =
@@ -54,7 +54,7 @@ may_follow at skipped before (r ∷ rs) goes sized order =
     let W : List Record → Type 0 = λ l. WellFormedAfter skipped l in
     (next, behind, may_follow at skipped (before ++ r ∷ []) rs (subst F (sym regrouped) goes) (subst S (sym regrouped) sized) (subst W (sym regrouped) order))
 
--- the same of a section of a log: what stands before it was skipped, what stands behind it is not read yet
+-- the same of a section of a log: what stands before it was skipped, what stands after it is not read yet
 pub section_may_follow : (log skipped before rs rest : List Record) → IsWellFormedLog log → log ≡ skipped ++ ((before ++ rs) ++ rest) → MayFollow before rs
 section_may_follow log skipped before rs rest good whole =
     let F : List Record → Type 0 = λ l. follows FIRST_POSITION l ≡ true in

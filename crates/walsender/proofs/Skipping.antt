@@ -73,7 +73,7 @@ nothing_skipped selection log start from reads good =
     let parts : log ≡ take from log ++ drop from log = sym (take-append-drop from log) in
     ap (publishing selection) (skipped_none log start [] (take from log) (drop from log) parts (subst (WellFormedAfter []) parts good.order) (from_skips log start from reads good))
 
--- ---- A section behind it.
+-- ---- A section after it.
 
 -- The records that were read say of the next ones what all of the log before them says.
 pub record ReadsBehind (selection : PublicationSet) (start from place : ℕ) (log section : List Record) : Type 0 where

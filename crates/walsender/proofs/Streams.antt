@@ -20,7 +20,7 @@ use Rattle.walsender.specs.Published.{published_from, published_transactions}
 use Rattle.walsender.specs.Sending.{blocks, published_bytes}
 use Rattle.walsender.proofs.Batches.{published_from-append}
 
--- ---- items behind items
+-- ---- items after items
 
 sent-append : (a b : List Item) → transactions_of (a ++ b) ≡ transactions_of a ++ transactions_of b
 sent-append [] b = refl

@@ -1,4 +1,4 @@
--- What is asked for a stream before it begins, one question behind the other.
+-- What is asked for a stream before it begins, one question after the other.
 use Rattle.std.specs.Prelude.{◌≡◌, Bool, true, false, List, [], ◌∷◌, Option, Some, None, Result, Ok, Err}
 use Rattle.publication_config.specs.declared.fault.PubFault.{PubFault}
 use Rattle.walsender.specs.declared.beginning.ClaimFault.{ClaimFault}
@@ -24,7 +24,7 @@ questions (Err (faults.Publication fault)) = FindsSlot true ∷ Judges (Some fau
 questions (Err faults.NoReader) = FindsSlot true ∷ Judges None ∷ TakesReader false ∷ []
 questions (Err (faults.Claim fault)) = FindsSlot true ∷ Judges None ∷ TakesReader true ∷ Claims (Some fault) ∷ []
 
--- these were asked, one behind the other
+-- these were asked, one after the other
 abbrev pub AreAsked : {D : Type 0} → (D → Question → D → Type 0) → D → List Question → D → Type 0
 AreAsked told old [] new = new ≡ old
 AreAsked {D} told old (question ∷ rest) new = (mid : D) × told old question mid × AreAsked told mid rest new

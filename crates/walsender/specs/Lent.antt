@@ -35,7 +35,7 @@ sent_from selection s before rs = flat_map (sent_as selection) (committed_from s
 abbrev pub sent_transactions : PublicationSet → List Record → ℕ → List LentTransaction
 sent_transactions selection rs s = sent_from selection s [] rs
 
--- the frames of their Commits stand among these bytes, one behind the other
+-- the frames of their Commits stand among these bytes, one after the other
 abbrev pub AreHeld : List ℕ → List LentTransaction → Type 0
 AreHeld bytes [] = Unit {0}
 AreHeld bytes (t ∷ ts) =

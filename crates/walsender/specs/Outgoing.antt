@@ -17,14 +17,14 @@ use Rattle.wal.specs.declared.record.Record.{Record}
 use Rattle.walsender.specs.Waiting.{AreSelected, AreWithin, begin_bytes, bytes_behind, places, ready_states, sent_behind}
 use Rattle.walsender.specs.Lent.{AreLastOf, LentTransaction, lent_with}
 use Rattle.walsender.specs.declared.outgoing.Outgoing.{Outgoing}
-use Rattle.walsender.specs.declared.waiting.Waiting.{Waiting}
+use Rattle.walsender.specs.declared.committed_transaction.CommittedTransaction.{CommittedTransaction}
 use Rattle.walsender.specs.declared.outgoing.TheConstants.{FRAMES_LENGTH}
 
 -- the frames that are made and not yet taken
 abbrev pub frames_left : Outgoing → List ℕ
 frames_left o = take (o.to - o.from) (drop o.from o.frames.items)
 
--- what is held behind those frames
+-- what is held after those frames
 abbrev pub held_behind : PublicationSet → ReorderState → Outgoing → List ℕ
 held_behind selection s o = bytes_behind selection s.strands.pool (reverse o.relations_sent.items) o.made.items o.waiting.items
 
@@ -41,7 +41,7 @@ abbrev pub settled_of : ReorderState → Outgoing → ReorderState
 settled_of s o = after_giving_all_back s (ready_states o.waiting.items)
 
 -- a transaction that waits, with the chunks that its changes fill
-abbrev pub lent_in : Arena → Waiting → LentTransaction
+abbrev pub lent_in : Arena → CommittedTransaction → LentTransaction
 lent_in arena w = record { commit = record { position = w.header.start; end = w.header.end; time = w.header.time }; chunks = ready_chunks arena w.ready }
 
 -- those that wait
@@ -77,7 +77,7 @@ pub record HoldsSame (selection : PublicationSet) (s s' : ReorderState) (o o' : 
   pub settled : settled_of s' o' ≡ settled_of s o
   pub lent : AreLastOf (lent_of s' o') (lent_of s o)
 
--- Blocks of these transactions came behind what was held, or, where memory was refused, nothing.
+-- Blocks of these transactions came after what was held, or, where memory was refused, nothing.
 pub record Grows (selection : PublicationSet) (clock : ℤ) (ts : List Published) (result : Result (Unit {0}) AllocError) (s s' : ReorderState) (o o' : Outgoing) : Type 0 where
   pub good : IsOutgoing selection s' o'
   pub held : OnOk result (held_of selection s' o' ≡ held_of selection s o ++ bytes_of_items (relation selection) (sent_of selection s o) (map (Block clock) ts))
@@ -113,7 +113,7 @@ pub record StaysQueued (o o' : Outgoing) : Type 0 where
   pub frames : IsSized o o'
   pub rest : IsSameQueue o o'
 
--- A transaction waits behind all others and behind its Begin.
+-- A transaction waits after all others and after its Begin.
 pub record Queues (selection : PublicationSet) (ready : ReadyState) (clock : ℤ) (header : Header) (o o' : Outgoing) : Type 0 where
   pub before : ℕ
   pub place : before + o.placed ≡ length (o.made.items ++ begin_bytes clock header)
@@ -128,7 +128,7 @@ pub record Queues (selection : PublicationSet) (ready : ReadyState) (clock : ℤ
   pub sent : o'.relations_sent.items ≡ o.relations_sent.items
   pub capacity : length (selected_oids selection) ≤ vec_capacity o'.relations_sent
 
--- frames were made behind those that there were
+-- frames were made after those that there were
 pub record IsFilled (o o' : Outgoing) : Type 0 where
   pub front : o'.front ≡ o.front
   pub from : o'.from ≡ o.from

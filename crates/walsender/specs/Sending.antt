@@ -1,5 +1,5 @@
 -- A sender between its calls, and what reading records does to it. The records may be those of a whole log or of a section of
--- one, which begins behind earlier records of its transactions.
+-- one, which begins after earlier records of its transactions.
 use Rattle.std.specs.Prelude.{◌≡◌, ◌⊎◌, ◌+◌, ◌<◌, ℕ, ℤ, Bool, true, false, List, [], ◌∷◌, ◌++◌, length, take, map, filter, nat_le, slice_get, sum_by, Option, Some, None, if◌then◌else◌}
 use Rattle.std.specs.List.{AllByRecursion}
 use Rattle.publication.specs.Publications.{PublicationSet}
@@ -28,7 +28,7 @@ pub record SenderState : Type 0 where
   pub reorder : ReorderState
   pub lent : List LentTransaction
 
--- Each record may come next, in a section of a well-formed log, behind those before it.
+-- Each record may come next, in a section of a well-formed log, after those before it.
 abbrev pub MayFollow : List Record → List Record → Type 0
 MayFollow before [] = Unit {0}
 MayFollow before (r ∷ rs) = MayCome before r.body × StartsBehind before r × MayFollow (before ++ r ∷ []) rs
@@ -85,7 +85,7 @@ pub record LeavesChunks (s : SenderState) (chunks : ℕ) (rs : List Record) (fre
   pub sent : AreLastOf s.lent (sent_transactions s.selection rs s.start)
   pub held : AreHeld s.held s.lent
 
--- Behind those of these records that were read, which the position tells, stands a change for which no chunk was left.
+-- After those of these records that were read, which the position tells, stands a change for which no chunk was left.
 pub record LacksRoom (old new : SenderState) (rs : List Record) : Type 0 where
   pub count : ℕ
   pub next : Record

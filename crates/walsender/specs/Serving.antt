@@ -34,7 +34,7 @@ pub record BeginsAt (log : List Record) (start first from : ℕ) : Type 0 where
   pub good : IsWellFormedLog log
   pub position : first ≡ end_of FIRST_POSITION (take from log)
 
--- Unless it has failed, its reader stands behind those records, and it is as those that it read leave a sender.
+-- Unless it has failed, its reader stands after those records, and it is as those that it read leave a sender.
 pub record IsServing (log : List Record) (place : ℕ) (written : List ℕ) (s : SenderState) : Type 0 where
   pub from : ℕ
   pub reads_from : ReadsFrom log s.start from

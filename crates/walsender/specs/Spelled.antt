@@ -3,7 +3,7 @@ use Rattle.std.specs.Prelude.{◌≡◌, ◌≤◌, ℕ, ◌==◌, List, [], ◌
 use Rattle.std.specs.Int.{w32, from_be_bytes}
 use Rattle.pgoutput.specs.declared.logical.Logical.{Logical}
 use Rattle.pgoutput.specs.declared.logical.Logical.TheVariants as logical
-use Rattle.pgoutput.specs.declared.fault.OutFault.{OutFault}
+use Rattle.pgoutput.specs.declared.fault.PgoutputError.{PgoutputError}
 use Rattle.pgoutput.specs.declared.truncate.TheConstants.{TRUNCATE}
 use Rattle.pgoutput.specs.declared.message.TheConstants.{MESSAGE}
 use Rattle.pgoutput.specs.Logical.{spell_logical, whole_of}
@@ -13,7 +13,7 @@ use Rattle.walsender.specs.declared.header.Header.{Header}
 use Rattle.walsender.specs.Published.{CanBeTold}
 
 -- what was read, and where nothing was, a message that names no table
-abbrev pub decoded_message : Result Logical OutFault → Logical
+abbrev pub decoded_message : Result Logical PgoutputError → Logical
 decoded_message (Ok m) = m
 decoded_message (Err fault) = logical.Truncate (record { options = record { cascade = false; restart_identity = false }; oids = [] })
 
@@ -30,13 +30,13 @@ pub record Tells (selection : PublicationSet) (position : ℕ) (bytes : List ℕ
   pub told : CanBeTold selection (told_at position bytes)
   pub text : bytes ≡ spell_logical (message_in bytes)
 
--- the numbers of four bytes, one behind the other
+-- the numbers of four bytes, one after the other
 abbrev pub oids_in : List ℕ → List ℕ
 oids_in (a ∷ b ∷ c ∷ d ∷ bytes) = from_be_bytes w32 (a ∷ b ∷ c ∷ d ∷ []) ∷ oids_in bytes
 oids_in _ = []
 
--- The tables that a message of a change names: a Truncate has their OIDs behind its letter, their count and its options, a Message names
--- none, any other has one OID behind its letter.
+-- The tables that a message of a change names: a Truncate has their OIDs after its letter, their count and its options, a Message names
+-- none, any other has one OID after its letter.
 abbrev pub named_in : List ℕ → List ℕ
 named_in bytes =
     if get_or bytes 0 0 == TRUNCATE then oids_in (drop 6 bytes)

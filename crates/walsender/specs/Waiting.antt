@@ -17,10 +17,10 @@ use Rattle.reorder.specs.declared.ready.Step.TheVariants as steps
 use Rattle.walsender.specs.Published.{published_changes}
 use Rattle.walsender.specs.Spelled.{begin_with, commit_with}
 use Rattle.walsender.specs.declared.header.Header.{Header}
-use Rattle.walsender.specs.declared.waiting.Waiting.{Waiting}
+use Rattle.walsender.specs.declared.committed_transaction.CommittedTransaction.{CommittedTransaction}
 
 -- a transaction's changes from the next one on, as they are published
-abbrev pub left_of : PublicationSet → PoolState → Waiting → List PublishedChange
+abbrev pub left_of : PublicationSet → PoolState → CommittedTransaction → List PublishedChange
 left_of selection pool w = published_changes selection (drop w.next (ready_entries pool w.ready))
 
 -- the bytes of changes, and of the Relations that are due before them
@@ -34,36 +34,36 @@ abbrev pub commit_bytes : ℤ → Header → List ℕ
 commit_bytes clock h = word_bytes (xlogdata_word h.end clock (commit_with h))
 
 -- what is left to be made of a transaction: its changes from the next one on, and its Commit
-abbrev pub bytes_left : PublicationSet → PoolState → List ℕ → Waiting → List ℕ
+abbrev pub bytes_left : PublicationSet → PoolState → List ℕ → CommittedTransaction → List ℕ
 bytes_left selection pool sent w = changes_bytes selection sent w.clock (left_of selection pool w) ++ commit_bytes w.clock w.header
 
--- All bytes of transactions that wait and of what stands between them: each one's changes come behind so many of the bytes that are made.
-abbrev pub bytes_behind : PublicationSet → PoolState → (sent made : List ℕ) → List Waiting → List ℕ
+-- All bytes of transactions that wait and of what stands between them: each one's changes come after so many of the bytes that are made.
+abbrev pub bytes_behind : PublicationSet → PoolState → (sent made : List ℕ) → List CommittedTransaction → List ℕ
 bytes_behind selection pool sent made [] = made
 bytes_behind selection pool sent made (w ∷ ws) =
     take w.before made
     ++ (bytes_left selection pool sent w ++ bytes_behind selection pool (relations_sent_by_all sent (left_of selection pool w)) (drop w.before made) ws)
 
 -- the tables whose Relation was sent, once they are sent too
-abbrev pub sent_behind : PublicationSet → PoolState → List ℕ → List Waiting → List ℕ
+abbrev pub sent_behind : PublicationSet → PoolState → List ℕ → List CommittedTransaction → List ℕ
 sent_behind selection pool sent [] = sent
 sent_behind selection pool sent (w ∷ ws) = sent_behind selection pool (relations_sent_by_all sent (left_of selection pool w)) ws
 
 -- Of so many bytes that are made, each one's changes have those in front of them that are theirs.
-abbrev pub AreWithin : ℕ → List Waiting → Type 0
+abbrev pub AreWithin : ℕ → List CommittedTransaction → Type 0
 AreWithin made [] = Unit {0}
 AreWithin made (w ∷ ws) = (w.before ≤ made) × AreWithin (made - w.before) ws
 
 -- how many bytes that are made stand before the changes of the last one
-abbrev pub places : List Waiting → ℕ
+abbrev pub places : List CommittedTransaction → ℕ
 places [] = 0
 places (w ∷ ws) = w.before + places ws
 
 -- what is ready of those that wait
-abbrev pub ready_states : List Waiting → List ReadyState
+abbrev pub ready_states : List CommittedTransaction → List ReadyState
 ready_states ws = map (λ w. w.ready) ws
 
--- what is ready, with what a record made ready behind it
+-- what is ready, with what a record made ready after it
 abbrev pub ready_states_with : List ReadyState → Step → List ReadyState
 ready_states_with rs steps.Quiet = rs
 ready_states_with rs (steps.Ready ready) = rs ++ ready ∷ []

@@ -7,7 +7,7 @@ use slots::SlotFault;
 
 /// Whoever has the slots, the publications and the readers of which a stream is made, for one START. `told` is what a question with
 /// its answer says of it before and after; who tells nothing says `Unit`.
-pub trait StartDesk {
+pub trait StartBackend {
     ghost use Rattle.std.specs.Prelude.{is_some};
     ghost use Rattle.walsender.specs.Beginning.{Question, FindsSlot, Judges, TakesReader, Claims, fault_of};
 
@@ -44,6 +44,8 @@ pub enum ClaimFault {
     Slot(SlotFault),
     /// The log lets no reader in.
     NoEntry,
+    /// The log's records for it were given back.
+    Removed,
     Memory,
 }
 
@@ -60,20 +62,20 @@ pub enum StartFault {
 }
 
 /// Begins a stream, or answers the first of the refusals in their order: there is no such slot, a publication is unknown, lists
-/// differ, no reader is free, the slot is held; and want of memory last. Nothing is asked behind a refusal.
-pub fn begin<D: StartDesk>(desk: &mut D) -> Result<D::Grant, StartFault>
-    ensures { AreAsked D.told desk.old (questions result) desk.new }
+/// differ, no reader is free, the slot is held; and want of memory last. Nothing is asked after a refusal.
+pub fn begin<D: StartBackend>(backend: &mut D) -> Result<D::Grant, StartFault>
+    ensures { AreAsked D.told backend.old (questions result) backend.new }
 {
-    let Some(slot) = desk.find_slot() else {
+    let Some(slot) = backend.find_slot() else {
         return Err(StartFault::NoSlot);
     };
-    if let Err(fault) = desk.judge() {
+    if let Err(fault) = backend.judge() {
         return Err(StartFault::Publication(fault));
     }
-    let Some(reader) = desk.take_reader() else {
+    let Some(reader) = backend.take_reader() else {
         return Err(StartFault::NoReader);
     };
-    match desk.claim(slot, reader) {
+    match backend.claim(slot, reader) {
         Ok(grant) => Ok(grant),
         Err(fault) => Err(StartFault::Claim(fault)),
     }

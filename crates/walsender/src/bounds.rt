@@ -7,9 +7,9 @@ ghost use Rattle.pqformat.specs.Writing.{FitsRoom, Writes};
 ghost use Rattle.walsender.specs.Spelled.{begin_with, commit_with};
 ghost use Rattle.walsender.specs.Waiting.{begin_bytes, commit_bytes};
 
+use crate::committed_transaction::CommittedTransaction;
 use crate::header::Header;
 use crate::making::{HEAD_LENGTH, put_head};
-use crate::waiting::Waiting;
 use pgoutput::{BEGIN, COMMIT, COMMIT_FLAGS};
 use pqformat::{write_byte, write_int32, write_int64};
 
@@ -48,7 +48,7 @@ fn put_commit(header: &Header, clock: i64, out: &mut [u8]) -> usize
 }
 
 /// Makes the frame of the Commit of a transaction that waits at the front of `out`, and answers how long it is.
-pub(crate) fn put_commit_of(waiting: &Waiting, out: &mut [u8]) -> usize
+pub(crate) fn put_commit_of(waiting: &CommittedTransaction, out: &mut [u8]) -> usize
     requires room { COMMIT_FRAME_LENGTH ≤ length out.old }
     requires short { length out.old < 2 ^ 31 }
     ensures made { take result out.new ≡ commit_bytes waiting.now.clock waiting.now.header }

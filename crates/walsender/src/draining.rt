@@ -133,7 +133,7 @@ impl Outgoing {
         Ok(())
     }
 
-    /// Moves frames behind the front, and answers whether there were any. Where memory is refused, they stay.
+    /// Moves frames after the front, and answers whether there were any. Where memory is refused, they stay.
     fn gather_frames(
         &mut self,
         selection: &Selection,

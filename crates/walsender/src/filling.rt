@@ -1,7 +1,7 @@
 //! Frames of what is held, made as they go out.
 
 ghost use Rattle.std.specs.Prelude.{◌≡◌, ◌+◌, ◌<◌, ◌≤◌, ◌++◌, ◌∷◌, [], List, MatchBool, drop, length, take};
-ghost use Rattle.walsender.specs.declared.waiting.Waiting.{Waiting};
+ghost use Rattle.walsender.specs.declared.committed_transaction.CommittedTransaction.{CommittedTransaction};
 ghost use Rattle.walsender.specs.Outgoing.{HoldsSame, IsFilled, IsOutgoing, held_of};
 
 use crate::bounds::put_commit_of;
@@ -45,7 +45,7 @@ impl Outgoing {
         true
     }
 
-    /// Makes frames behind those that are left, and answers whether there were any to make that surely had room.
+    /// Makes frames after those that are left, and answers whether there were any to make that surely had room.
     fn make(&mut self, selection: &Selection, reorder: &mut Reorder) -> bool
         requires good { IsOutgoing selection.now reorder.old self.old }
         requires room { self.old.to + LEAST_ROOM ≤ length self.old.frames.items }
@@ -109,7 +109,7 @@ impl Outgoing {
     fn finish_first(&mut self, selection: &Selection, reorder: &mut Reorder)
         requires good { IsOutgoing selection.now reorder.old self.old }
         requires room { self.old.to + LEAST_ROOM ≤ length self.old.frames.items }
-        requires over { (w : Waiting) (ws : List Waiting) → self.old.waiting.items ≡ w ∷ ws →
+        requires over { (w : CommittedTransaction) (ws : List CommittedTransaction) → self.old.waiting.items ≡ w ∷ ws →
             (w.before ≡ 0) × (length w.ready.places ≤ w.next) }
         requires waits { 0 < length self.old.waiting.items }
         ensures same { HoldsSame selection.now reorder.old reorder.new self.old self.new }
@@ -123,7 +123,7 @@ impl Outgoing {
         }
     }
 
-    /// Moves so many of the bytes that are made behind the frames.
+    /// Moves so many of the bytes that are made after the frames.
     fn move_made(&mut self, count: usize)
         requires enough { count ≤ length self.old.made.items }
         requires room { self.old.to + count ≤ length self.old.frames.items }

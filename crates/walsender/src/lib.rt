@@ -4,10 +4,14 @@
 //! `begin` judges whether a stream may begin, in the order of the refusals. `Walsender::begin` makes one. Then, in any order and any
 //! number of times: `read` or `turn` reads the log on, `keepalive` adds a keepalive, `turn`, `write_held` and `drain_into` give bytes
 //! away. `end` gives the reader back. `Sender` is its core, which is fed records.
+//!
+//! Read `walsender.rt`, `sender.rt`, `publishing.rt`, `making.rt`. Above, one contract is used: what was given away since the
+//! start and what is held are a stream encoding of exactly what the records that were read publish (`serves`).
 #![tactic(auto)]
 
 mod beginning;
 mod bounds;
+mod committed_transaction;
 mod draining;
 mod ended;
 mod fault;
@@ -23,11 +27,10 @@ mod section;
 mod sender;
 mod turn_fault;
 mod turning;
-mod waiting;
 mod walsender;
 mod word;
 
-pub use beginning::{ClaimFault, StartDesk, StartFault, begin};
+pub use beginning::{ClaimFault, StartBackend, StartFault, begin};
 pub use ended::Ended;
 pub use fault::SendFault;
 pub use limits::TURN_RECORDS;

@@ -11,9 +11,9 @@ ghost use Rattle.reorder.specs.Ready.{IsReadyIn};
 ghost use Rattle.walsender.specs.Spelled.{oids_in};
 ghost use Rattle.walsender.specs.Waiting.{AreSelected, Makes, frame_head, left_of};
 
+use crate::committed_transaction::CommittedTransaction;
 use crate::named::named_in;
 use crate::publishing::put_entry;
-use crate::waiting::Waiting;
 use copyboth::XLOGDATA;
 use frames::COPY_DATA;
 use pqformat::{Cursor, write_byte, write_int32, write_int64};
@@ -35,7 +35,7 @@ pub(crate) const LEAST_ROOM: usize = 64;
 pub(crate) fn next_frame(
     selection: &Selection,
     reorder: &Reorder,
-    waiting: &mut Waiting,
+    waiting: &mut CommittedTransaction,
     relations_sent: &mut Vec<u32>,
     out: &mut [u8],
 ) -> usize
@@ -71,7 +71,7 @@ pub(crate) fn next_frame(
 fn frame_at_next(
     selection: &Selection,
     reorder: &Reorder,
-    waiting: &mut Waiting,
+    waiting: &mut CommittedTransaction,
     relations_sent: &mut Vec<u32>,
     out: &mut [u8],
 ) -> usize

@@ -6,10 +6,10 @@ ghost use Rattle.walsender.specs.Spelled.{named_in, oids_in};
 use pgoutput::{MESSAGE, TRUNCATE};
 use pqformat::Cursor;
 
-/// Where the one OID stands that a message of a change has, behind its letter.
+/// Where the one OID stands that a message of a change has, after its letter.
 const OID: usize = 1;
 
-/// Where the OIDs of a Truncate begin, behind its letter, their count and its options.
+/// Where the OIDs of a Truncate begin, after its letter, their count and its options.
 const TRUNCATED: usize = 6;
 
 /// The OIDs of the tables that the message of a change names, in the order in which it names them.

@@ -12,13 +12,13 @@ ghost use Rattle.walsender.specs.Outgoing.{AddsBytes, IsSameQueue, IsSized, Queu
 ghost use Rattle.walsender.specs.Waiting.{begin_bytes};
 
 use crate::bounds::{BEGIN_FRAME_LENGTH, put_begin};
+use crate::committed_transaction::CommittedTransaction;
 use crate::header::Header;
-use crate::waiting::Waiting;
 use crate::word::{put_keepalive, put_spelled};
 use bytes::{BufMut, BytesMut};
 use pqformat::whole_or_nothing;
 use publication::Selection;
-use reorder::Ready;
+use reorder::CommittedChanges;
 use std::alloc::{AllocError, Global};
 use std::collections::VecDeque;
 
@@ -41,7 +41,7 @@ pub(crate) struct Outgoing {
     /// The frames of Begins, keepalives and notes.
     pub(crate) made: BytesMut,
     /// Committed transactions, the oldest first.
-    pub(crate) waiting: VecDeque<Waiting>,
+    pub(crate) waiting: VecDeque<CommittedTransaction>,
     /// How many of the bytes that are made stand before the changes of the last of them.
     pub(crate) placed: usize,
     /// The tables whose Relation was sent, the oldest first.
@@ -134,10 +134,10 @@ impl Outgoing {
     pub(crate) fn commit(
         &mut self,
         selection: &Selection,
-        ready: Ready,
+        ready: CommittedChanges,
         header: Header,
         clock: i64,
-    ) -> Result<(), Ready>
+    ) -> Result<(), CommittedChanges>
         requires { self.old.placed ≤ length self.old.made.items }
         ensures ok { OnOk result (Queues selection.now ready clock header self.old self.new) }
         ensures err { IfErr result (λ r. (r ≡ ready) × StaysQueued self.old self.new) }
@@ -147,7 +147,7 @@ impl Outgoing {
         };
         match self.begin(selection, &header, clock) {
             Ok(before) => {
-                self.waiting.push_back_reserved(Waiting {
+                self.waiting.push_back_reserved(CommittedTransaction {
                     ready,
                     next: 0,
                     clock,
@@ -161,7 +161,7 @@ impl Outgoing {
         }
     }
 
-    /// Adds the Begin of a transaction, with room for what comes behind it, and answers how many of the bytes that are made stand before
+    /// Adds the Begin of a transaction, with room for what comes after it, and answers how many of the bytes that are made stand before
     /// its changes. Where memory is refused, it adds nothing.
     fn begin(
         &mut self,

@@ -20,7 +20,7 @@ ghost use Rattle.walsender.specs.Outgoing.{Grows, IsOutgoing, lent_by_step, lent
 use crate::header::Header;
 use crate::outgoing::Outgoing;
 use publication::{MAX_MESSAGE_LENGTH, Selection, room_for};
-use reorder::{Ready, Reorder, Step};
+use reorder::{CommittedChanges, Reorder, Step};
 use std::alloc::AllocError;
 use wal::{Body, LoggedChange, Record};
 
@@ -126,7 +126,7 @@ impl Outgoing {
         start: u64,
         reorder: &mut Reorder,
         next: &Record,
-        mut ready: Ready,
+        mut ready: CommittedChanges,
         clock: i64,
     ) -> Result<(), AllocError>
         requires good { IsOutgoing selection.now reorder.old self.old }
@@ -167,7 +167,7 @@ impl Outgoing {
         &mut self,
         selection: &Selection,
         reorder: &mut Reorder,
-        ready: Ready,
+        ready: CommittedChanges,
         header: Header,
         clock: i64,
     ) -> Result<(), AllocError>
@@ -206,7 +206,7 @@ fn judge(
     start: u64,
     next: &Record,
     reorder: &Reorder,
-    ready: &mut Ready,
+    ready: &mut CommittedChanges,
 ) -> Option<Header>
     requires held { IsReadyIn reorder.now.strands.pool ready.old }
     ensures value { option_to_list
@@ -230,7 +230,7 @@ fn header_of(
     start: u64,
     next: &Record,
     reorder: &Reorder,
-    ready: &mut Ready,
+    ready: &mut CommittedChanges,
 ) -> Option<Header>
     requires held { IsReadyIn reorder.now.strands.pool ready.old }
     ensures value { option_to_list
@@ -256,7 +256,7 @@ fn header_of(
 }
 
 /// Whether a change that is ready has a message.
-fn has_message(selection: &Selection, reorder: &Reorder, ready: &mut Ready) -> bool
+fn has_message(selection: &Selection, reorder: &Reorder, ready: &mut CommittedChanges) -> bool
     requires held { IsReadyIn reorder.now.strands.pool ready.old }
     ensures value { result
         ≡ not
@@ -274,7 +274,12 @@ fn has_message(selection: &Selection, reorder: &Reorder, ready: &mut Ready) -> b
 }
 
 /// Whether the k-th change that is ready has a message.
-fn tells_entry(selection: &Selection, reorder: &Reorder, ready: &mut Ready, k: usize) -> bool
+fn tells_entry(
+    selection: &Selection,
+    reorder: &Reorder,
+    ready: &mut CommittedChanges,
+    k: usize,
+) -> bool
     requires held { IsReadyIn reorder.now.strands.pool ready.old }
     requires within { k < length ready.old.places }
     ensures told { MatchBool result
@@ -311,7 +316,7 @@ fn make_room(room: &mut Vec<u8>) -> Result<(), AllocError>
 pub(crate) fn put_entry(
     selection: &Selection,
     reorder: &Reorder,
-    ready: &mut Ready,
+    ready: &mut CommittedChanges,
     k: usize,
     room: &mut [u8],
 ) -> Result<Option<(u64, usize)>, NoRoom>

@@ -26,7 +26,7 @@ use wal::Record;
 /// `start` makes a sender. Then, in any order and any number of times: `feed` reads the next records, `keepalive` adds a
 /// keepalive, `drain` and `drain_into` move held bytes out. `into_selection` ends it.
 ///
-/// Of `feed`, Ok means that all records were read. G4 means that they don't stand at `position()`, one behind the other: none
+/// Of `feed`, Ok means that all records were read. G4 means that they don't stand at `position()`, one after the other: none
 /// was read, and the right ones may come next. G1 is a full arena and G2 want of memory: the records up to `position()` were
 /// read, and the sender has failed. A failed sender can still be drained; its `feed` and its `keepalive` are G3. A `keepalive`
 /// that is G2 has added nothing, and may be called again.
@@ -131,7 +131,7 @@ impl Sender {
         self.take_all(records, clock)
     }
 
-    /// Holds a keepalive with the sender's position behind all that is held.
+    /// Holds a keepalive with the sender's position after all that is held.
     pub fn keepalive(&mut self, clock: i64, ask: bool) -> Result<(), SendFault>
         ensures ok { OnOk result
             (self.new
@@ -221,7 +221,7 @@ impl Sender {
     }
 }
 
-/// Whether the records stand one behind the other from the position on.
+/// Whether the records stand one after the other from the position on.
 fn do_follow(position: u64, records: &[Arc<Record>]) -> bool
     ensures { result ≡ follows position (shared_records records.now) }
 {

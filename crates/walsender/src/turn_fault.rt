@@ -12,7 +12,7 @@ use thiserror::Error;
 /// Why a turn failed. Only at U2 was anything written.
 #[derive(Debug, Drop, Error)]
 pub enum TurnFault {
-    /// The sender refused the records, behind which the reader stands now.
+    /// The sender refused the records, after which the reader stands now.
     #[error("U1: {0}")]
     Sender(SendFault),
     /// The writer failed, or took no bytes.

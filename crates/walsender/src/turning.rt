@@ -28,7 +28,7 @@ use std::io::{ErrorKind, Write};
 /// Fetches records, feeds them under this clock, and writes all that the sender holds, what it held before first. It answers
 /// how many records it fetched: 0 where the reader has come to the end of what it sees.
 ///
-/// U4 and U3 come from the fetch, and change nothing but what the reader has seen. At U1 the reader has moved on behind the
+/// U4 and U3 come from the fetch, and change nothing but what the reader has seen. At U1 the reader has moved on after the
 /// records that the sender refused, and nothing was written. At U2 the writer took a beginning of what was held, and the rest
 /// is held still; the connection is over. Any error of the writer is U2, and so is a write that takes no bytes. It doesn't flush.
 pub fn turn<L: LogName, W: Write>(

@@ -99,7 +99,7 @@ impl<L: LogName> Walsender<L> {
     }
 
     /// Reads up to `max` records of the log, and answers what the sender made of them. Where the log gives none, nothing has
-    /// changed; where the sender refuses them, the reader stands behind them.
+    /// changed; where the sender refuses them, the reader stands after them.
     pub fn read(
         &mut self,
         alloc: Global,
@@ -161,7 +161,7 @@ impl<L: LogName> Walsender<L> {
         turn(alloc, &mut self.sender, &mut self.reader, clock, to)
     }
 
-    /// Holds a keepalive with the position up to which was read, behind all that is held.
+    /// Holds a keepalive with the position up to which was read, after all that is held.
     pub fn keepalive(&mut self, clock: i64, ask: bool) -> Result<(), SendFault>
         ensures ok { OnOk result
             (self.new.sender

@@ -129,7 +129,7 @@ answered bytes old new (answers.Publication fault) takes = absurd takes
 answered bytes old new answers.NoReader takes = absurd takes
 answered bytes old new (answers.Sender fault) takes = absurd takes
 
--- the bytes behind those that were delivered
+-- the bytes after those that were delivered
 next_taken : (d n : ℕ) (p : List ℕ) → take d p ++ take n (drop d p) ≡ take (d + length (take n (drop d p))) p
 next_taken d n p =
     let count : length (take n (drop d p)) ≡ min n (length (drop d p)) = length-take n (drop d p) in

@@ -1,4 +1,4 @@
--- What a log publishes stands in the order of its commits, each behind the one before it; what it publishes from a later start position
+-- What a log publishes stands in the order of its commits, each after the one before it; what it publishes from a later start position
 -- is the later part.
 use Rattle.std.proofs.Common.{◌≡◌, ◌≤◌, ◌<◌, ℕ, Bool, true, false, cond, List, [], ◌∷◌, ◌++◌, map, filter, refl, sym, ap, subst, ◌∙◌, arith}
 use Rattle.std.specs.Prelude.{not, nat_le}
@@ -17,7 +17,7 @@ use Rattle.walsender.proofs.Sections.{followed}
 
 -- ---- Transactions in order.
 
--- they stand one behind the other, between two positions
+-- they stand one after the other, between two positions
 abbrev pub InOrder : ℕ → ℕ → List Published → Type 0
 InOrder from to [] = from ≤ to
 InOrder from to (t ∷ ts) = (from ≤ t.start) × (t.start < t.end) × InOrder t.end to ts

@@ -195,7 +195,7 @@ empty bytes pipe = front (λ ss. None ≡ slice_get ss 0 → ss ≡ []) bytes pi
 pub nothing : (bytes : List ℕ) → IsPipe bytes → byte_at bytes ≡ None → None ≡ slice_get (statuses_in bytes) 0
 nothing bytes pipe none = front (λ ss. None ≡ slice_get ss 0) bytes pipe (λ is. refl) (λ s ss fits all is. let byte = ap byte_at (sym is) ∙ none in absurd cc)
 
--- behind this type byte stands the rest of a status's frame
+-- after this type byte stands the rest of a status's frame
 pub record HasFrame (ss : List Status) (kind : ℕ) (behind : List ℕ) : Type 0 where
   pub told : Status
   pub rest : List ℕ
@@ -222,7 +222,7 @@ frame_there bytes kind behind pipe found =
       number = ap (number_at w32) (sym same.1) ∙ number_there 38 (status s ++ later) (omega arith);
     })
 
--- behind this length stands its body
+-- after this length stands its body
 pub record HasBody (ss : List Status) (n : ℕ) (behind : List ℕ) : Type 0 where
   pub told : Status
   pub rest : List ℕ

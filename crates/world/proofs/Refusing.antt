@@ -74,7 +74,7 @@ if_used : {fault : _} (h : Bool) → Some fault ≡ if_held h → true ≡ h
 if_used true e = refl
 if_used {fault} false e = let never : Option.Some fault ≡ Option.None = e in cc
 
--- ---- One behind the other.
+-- ---- One after the other.
 
 module _ {L : Type 0} (f new : StartFacts L) where
   abbrev pub missing : StartFacts L → Bool

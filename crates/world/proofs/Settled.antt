@@ -101,7 +101,7 @@ end_later log more good =
     let rest = starts_below (end_of FIRST_POSITION log) more parts.1 (all_back IsSized log more good.sizes) in
     omega (arith, end_of-append FIRST_POSITION log more, rest.0)
 
--- what is published of the records behind a log, in order
+-- what is published of the records after a log, in order
 behind_log : (selection : PublicationSet) (from : ℕ) (log more : List Record) → IsWellFormedLog (log ++ more) → InOrder (end_of FIRST_POSITION log) (end_of FIRST_POSITION (log ++ more)) (published_from selection from log more)
 behind_log selection from log more good =
     let parts = follows_parts FIRST_POSITION log more good.follows in

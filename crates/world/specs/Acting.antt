@@ -25,12 +25,12 @@ abbrev pub read_by : ℕ → List Record → List Record
 read_by position [] = []
 read_by position (r ∷ rs) = if nat_le r.end position then r ∷ read_by position rs else []
 
--- the records behind a position
+-- the records after a position
 abbrev pub unread_records : ℕ → List Record → List Record
 unread_records position [] = []
 unread_records position (r ∷ rs) = if nat_le r.end position then unread_records position rs else r ∷ rs
 
--- these records are read under a clock: what they publish is held, in blocks behind those of the records before them
+-- these records are read under a clock: what they publish is held, in blocks after those of the records before them
 abbrev pub after_reading : List Record → ℤ → List Record → StartState → StartState
 after_reading log clock section s = record s {
   position = end_of s.position section;

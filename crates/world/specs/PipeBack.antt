@@ -27,13 +27,13 @@ abbrev pub before : Option Status → List Status → List Status
 before None later = []
 before (Some s) later = s ∷ later
 
--- what the frame at the front tells, and those behind it
+-- what the frame at the front tells, and those after it
 abbrev pub told_by : Result (Option (Front × ℕ)) FrameFault → (ℕ → List Status) → List Status
 told_by (Ok (Some f)) later = before (told_in f.0) (later f.1)
 told_by (Ok None) later = []
 told_by (Err e) later = []
 
--- at most so many, one behind the other from the front
+-- at most so many, one after the other from the front
 unfoldable pub statuses_at : ℕ → List ℕ → List Status
 statuses_at zero bytes = []
 statuses_at (suc most) bytes = told_by (framed_front bytes) (λ n. statuses_at most (drop n bytes))

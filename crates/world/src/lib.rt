@@ -3,6 +3,9 @@
 //!
 //! `World::run` does a list of events, and `World::step` one; `World::answers` lends what each answered, and
 //! `World::starts` what each start of a sender produced.
+//!
+//! Read `world.rt`, `machine.rt`, `start.rt`, then specs/Steps.antt and specs/Law.antt. Above, one contract is used: a run
+//! is its events one after the other, and what each start produced is a beginning of the stream that its log publishes.
 #![tactic(auto)]
 
 mod action;

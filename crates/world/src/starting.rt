@@ -20,7 +20,7 @@ use schedule::{Answer, StartOptions, WorldFault};
 use shared_log::LogName;
 use slots::{HeldSlots, SlotFault, SlotName, is_held, is_missing, slot_named, start_from, take};
 use std::alloc::{AllocError, Global};
-use walsender::{ClaimFault, StartDesk, StartFault, begin};
+use walsender::{ClaimFault, StartBackend, StartFault, begin};
 
 impl<L: LogName + SlotName> Machine<L> {
     /// Starts a sender, which reads the log from the restart position of its start position on. L1 where no slot has the
@@ -276,7 +276,7 @@ pub(crate) struct StartFacts<'m, L: SlotName> {
     pub names: &'m [Text],
 }
 
-impl<'m, L: SlotName> StartDesk for StartFacts<'m, L> {
+impl<'m, L: SlotName> StartBackend for StartFacts<'m, L> {
     type Slot = ();
 
     type Reader = ();

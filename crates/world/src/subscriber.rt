@@ -208,7 +208,7 @@ pub(crate) fn subscribe(
     }
 }
 
-/// Adds a name behind the others. There is room for it.
+/// Adds a name after the others. There is room for it.
 fn add_name(names: &mut IndexSet<String>, name: Text)
     requires room { 0 < spare names.old }
     requires new { list_any (λ k. bytes_eq name (string_bytes k)) names.old.keys ≡ false }

@@ -3,7 +3,7 @@
 use super::outcome::Done;
 use super::refusal::{Refusal, Unmet};
 use super::step::{Await, Until};
-use crate::ending::Doors;
+use crate::ending::ListenerHandles;
 use hub::{Hub, SteerFault};
 use shared_log::LogName;
 use slots::SlotName;
@@ -31,12 +31,17 @@ impl<'a> Waiting<'a> {
     }
 
     /// Waits for a moment, and answers what has come of the line. None: it waits on.
-    pub(crate) fn turn<L, R>(&self, rt: &R, hub: &Hub<L>, doors: &Doors) -> Option<Done>
+    pub(crate) fn turn<L, R>(
+        &self,
+        rt: &R,
+        hub: &Hub<L>,
+        listeners: &ListenerHandles,
+    ) -> Option<Done>
     where
         L: LogName + SlotName,
         R: Wait + Clock,
     {
-        let are_over = doors.are_connections_over();
+        let are_over = listeners.are_connections_over();
         match self.look(rt, hub) {
             Ok(true) => Some(Done::Steered),
             Err(_) => Some(Done::Refused(Refusal::NoSlot)),

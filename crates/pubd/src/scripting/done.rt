@@ -3,6 +3,7 @@
 use super::outcome::Done;
 use super::refusal::Refusal;
 use super::step::Steering;
+use crate::ending::ListenerHandles;
 use clocks::clock_now;
 use hub::{Hub, SteerFault};
 use pqformat::Text;
@@ -32,6 +33,24 @@ pub(crate) fn steer<L: LogName + SlotName, R: Wait>(
     }
 }
 
+/// Reads those that may connect again.
+pub(crate) fn reload<L, R>(rt: &R, hub: &Hub<L>, listeners: &ListenerHandles) -> Done
+where
+    L: LogName + SlotName,
+    R: Wait,
+{
+    let Some(file) = &listeners.passwords else {
+        return Done::Refused(Refusal::NoPasswords);
+    };
+    match file.users(hub.alloc()) {
+        Ok(users) => {
+            hub.replace_users(rt, users);
+            Done::Steered
+        }
+        Err(fault) => Done::Refused(Refusal::Users(fault)),
+    }
+}
+
 /// Commits the transaction of this name at the time of the clock, or at 0 where it can't be read.
 pub(crate) fn commit_now<L: LogName + SlotName, R: Wait + Clock>(
     rt: &R,
@@ -44,7 +63,7 @@ pub(crate) fn commit_now<L: LogName + SlotName, R: Wait + Clock>(
     do_event(rt, hub, sessions, &event)
 }
 
-/// Does a session's line under the publisher's lock, and tells streams of its commit or its note.
+/// Does a session's line under the publisher's lock, once there is room for it where there can be, and tells streams of its commit or its note.
 pub(crate) fn do_event<L: LogName + SlotName, R: Wait>(
     rt: &R,
     hub: &Hub<L>,
@@ -52,11 +71,12 @@ pub(crate) fn do_event<L: LogName + SlotName, R: Wait>(
     event: &Event,
 ) -> Result<Done, AllocError> {
     let mut publisher = hub.publisher().lock(rt);
+    hub.make_room(rt, &mut publisher);
     let done = sessions.line(rt, &mut publisher, event);
-    let log_end = publisher.end();
+    let (log_end, kept) = (publisher.end(), publisher.kept());
     MutexGuard::unlock(publisher);
     match done {
-        Ok((answer, Some(receipt))) => Ok(tell_commit(rt, hub, answer, receipt)),
+        Ok((answer, Some(receipt))) => Ok(tell_commit(rt, hub, answer, receipt, kept)),
         Ok((answer, None)) => Ok(tell_end(rt, hub, event, answer, log_end)),
         Err(WorldFault::BadEvent) => Ok(Done::Refused(not_now(event))),
         Err(WorldFault::Memory | WorldFault::NoEntry) => Err(AllocError),
@@ -71,18 +91,19 @@ fn not_now(event: &Event) -> Refusal {
     }
 }
 
-/// A commit leaves its receipt.
+/// A commit leaves its receipt, in a log of which so many records are kept.
 fn tell_commit<L: LogName + SlotName, R: Wait>(
     rt: &R,
     hub: &Hub<L>,
     answer: Answer,
     receipt: Receipt<L>,
+    kept: usize,
 ) -> Done {
-    let (end, place) = (receipt.end(), receipt.place());
+    let end = receipt.end();
     hub.tell(rt, receipt);
     match answer {
         Answer::Session(fault) => Done::Refused(Refusal::Session(fault)),
-        _ => Done::Commit { end, place },
+        _ => Done::Commit { end, kept },
     }
 }
 

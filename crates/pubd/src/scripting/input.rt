@@ -10,7 +10,7 @@ use super::outcome::Done;
 use super::refusal::{Refusal, Unmet};
 use super::step::{Await, Step};
 use super::steps::{ScriptEnd, do_step};
-use crate::ending::Doors;
+use crate::ending::ListenerHandles;
 use crate::telling::Told;
 use hub::Hub;
 use schedule::{BadLine, LineRefusal, Sessions};
@@ -30,7 +30,7 @@ const MOST_KEPT: usize = 1000;
 pub struct Driven<'a, L: LogName + SlotName, R> {
     pub rt: &'a R,
     pub hub: &'a Hub<L>,
-    pub doors: &'a Doors,
+    pub listeners: &'a ListenerHandles,
     pub input: &'a InputLines,
     pub told: &'a Told,
     /// Whether the end of the input is that of the server.
@@ -55,10 +55,10 @@ struct Kept {
 
 /// Does lines as they come, each session's under the publisher's lock, and tells streams of each commit and each note.
 ///
-/// Each line is answered by one, in their order: `ok`; behind a commit with the position at which its record ends, as in
+/// Each line is answered by one, in their order: `ok`; after a commit with the position at which its record ends, as in
 /// `ok 0/1000050`; or the code of its refusal and words, V1 where it is no such line. Empty lines and those that begin with `#` are
-/// passed over. While a line waits, those behind it that steer are done as they come, and `end` and, where the server ends with
-/// its input, the end of the input end the wait. `end` is answered by `ok`, and no line is done behind it. Transactions that are in
+/// passed over. While a line waits, those after it that steer are done as they come, and `end` and, where the server ends with
+/// its input, the end of the input end the wait. `end` is answered by `ok`, and no line is done after it. Transactions that are in
 /// progress then, or where the input ends, are left as they are, so that nothing of them commits.
 pub fn run_input<L: LogName + SlotName, R: Wait + Clock, O: Print>(
     driven: &Driven<'_, L, R>,
@@ -148,7 +148,7 @@ fn do_pending<L: LogName + SlotName, R: Wait + Clock>(
     match pending {
         Pending::Done(done) => Ok(*done),
         Pending::Step(Step::Await(line)) => wait_out(driven, kept, line),
-        Pending::Step(step) => do_step(driven.rt, driven.hub, driven.doors, sessions, step),
+        Pending::Step(step) => do_step(driven.rt, driven.hub, driven.listeners, sessions, step),
     }
 }
 
@@ -160,7 +160,7 @@ fn wait_out<L: LogName + SlotName, R: Wait + Clock>(
 ) -> Result<Done, AllocError> {
     let waiting = Waiting::new(driven.rt, line);
     for _ in driven.rt.forever() {
-        if let Some(done) = waiting.turn(driven.rt, driven.hub, driven.doors) {
+        if let Some(done) = waiting.turn(driven.rt, driven.hub, driven.listeners) {
             return Ok(done);
         }
         let_pass(driven, kept)?;

@@ -1,4 +1,4 @@
-//! What a script leaves behind.
+//! What a script leaves after.
 
 use hub::Hub;
 use schedule::Sessions;

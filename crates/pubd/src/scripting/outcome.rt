@@ -8,9 +8,9 @@ use std::fmt;
 pub enum Done {
     /// A session's line was done.
     Line,
-    /// A transaction was committed, whose record ends at this position, and is the log's of this place.
-    Commit { end: u64, place: usize },
-    /// A stream was steered, or waited for.
+    /// A transaction was committed, whose record ends at this position, and after it so many records of the log are kept.
+    Commit { end: u64, kept: usize },
+    /// A stream was steered, or waited for, or those that may connect were read again.
     Steered,
     Refused(Refusal),
     /// The server is to end.

@@ -1,5 +1,6 @@
 //! Why lines are refused.
 
+use crate::user_file::UserFault;
 use schedule::BadLine;
 use std::fmt;
 use thiserror::Error;
@@ -18,6 +19,10 @@ pub enum Refusal {
     /// Its slot isn't there.
     NoSlot,
     Unmet(Unmet),
+    /// No passwords are asked.
+    NoPasswords,
+    /// The file of passwords is of no use.
+    Users(UserFault),
 }
 
 /// Why nobody waits any more for what a line awaits.
@@ -40,6 +45,8 @@ impl fmt::Display for Refusal {
             Refusal::Session(fault) => write!(f, "{} {fault}", fault.code()),
             Refusal::NoSlot => f.write_str("L1 there is no such slot"),
             Refusal::Unmet(why) => write!(f, "A1 {why}"),
+            Refusal::NoPasswords => f.write_str("A2 no passwords are asked"),
+            Refusal::Users(fault) => write!(f, "A2 {fault}"),
         }
     }
 }

@@ -1,4 +1,5 @@
-//! The lines of a script: those of sessions, those that steer streams or wait for them, and the one that ends the server.
+//! The lines of a script: those of sessions, those that steer streams or wait for them, the one that reads passwords again,
+//! and the one that ends the server.
 
 use pqformat::Text;
 use replcmd::{is_slot_name, parse_position};
@@ -16,6 +17,8 @@ pub enum Step {
     /// The stream of the slot of this name is steered.
     Steer(Text, Steering),
     Await(Await),
+    /// `reload`: those that may connect are read again.
+    Reload,
     /// `end`: the server ends.
     End,
 }
@@ -29,11 +32,11 @@ pub enum Steering {
     Resume,
     /// `ask S`: a keepalive asks its client for an answer.
     Ask,
-    /// `cut S`, `cut S N`: its connection is cut, behind N more bytes.
+    /// `cut S`, `cut S N`: its connection is cut, after N more bytes.
     Cut(u64),
 }
 
-/// `await S POSITION`, `await S stream`: the lines behind wait for this, for so many seconds if they are told.
+/// `await S POSITION`, `await S stream`: the lines after wait for this, for so many seconds if they are told.
 #[derive(Drop)]
 pub struct Await {
     pub slot: Text,
@@ -59,7 +62,8 @@ impl Step {
         let (word, rest) = line.split_once(' ').unwrap_or((line, ""));
         match word {
             "end" if rest.is_empty() => Ok(Step::End),
-            "end" => Err(LineRefusal::Bad(BadLine::OneFieldMore)),
+            "reload" if rest.is_empty() => Ok(Step::Reload),
+            "end" | "reload" => Err(LineRefusal::Bad(BadLine::OneFieldMore)),
             "await" => awaited(alloc, rest),
             "hold" => steer(alloc, rest, Steering::Hold),
             "resume" => steer(alloc, rest, Steering::Resume),

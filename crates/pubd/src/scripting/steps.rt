@@ -1,13 +1,13 @@
 //! Scripts in files, line by line.
 
 use super::awaiting::Waiting;
-use super::done::{commit_now, do_event, steer};
+use super::done::{commit_now, do_event, reload, steer};
 use super::fault::ScriptFault;
 use super::file::Script;
 use super::leaving::leave_all;
 use super::outcome::Done;
 use super::step::{Await, Step};
-use crate::ending::Doors;
+use crate::ending::ListenerHandles;
 use crate::telling::Told;
 use hub::Hub;
 use schedule::Sessions;
@@ -21,7 +21,7 @@ use std::time::Clock;
 #[derive(Clone, Copy, Debug, PartialEq, Eq)]
 pub enum ScriptEnd {
     LastLine,
-    /// By the line `end`, behind which it does nothing.
+    /// By the line `end`, after which it does nothing.
     EndLine,
 }
 
@@ -33,12 +33,12 @@ pub enum ScriptEnd {
 pub fn run_steps<L: LogName + SlotName, R: Wait + Clock>(
     rt: &R,
     hub: &Hub<L>,
-    doors: &Doors,
+    listeners: &ListenerHandles,
     script: &Script,
     told: &Told,
 ) -> Result<ScriptEnd, ScriptFault> {
     let mut sessions = Sessions::new(hub.alloc());
-    let ended = do_steps(rt, hub, doors, script, &mut sessions, told);
+    let ended = do_steps(rt, hub, listeners, script, &mut sessions, told);
     leave_all(rt, hub, sessions);
     Ok(ended?)
 }
@@ -46,14 +46,14 @@ pub fn run_steps<L: LogName + SlotName, R: Wait + Clock>(
 fn do_steps<L: LogName + SlotName, R: Wait + Clock>(
     rt: &R,
     hub: &Hub<L>,
-    doors: &Doors,
+    listeners: &ListenerHandles,
     script: &Script,
     sessions: &mut Sessions,
     told: &Told,
 ) -> Result<ScriptEnd, AllocError> {
     let name = script.path.as_str();
     for each in script.steps.as_slice() {
-        let done = do_step(rt, hub, doors, sessions, &each.step)?;
+        let done = do_step(rt, hub, listeners, sessions, &each.step)?;
         if matches!(done, Done::End) {
             return Ok(ScriptEnd::EndLine);
         }
@@ -69,7 +69,7 @@ fn do_steps<L: LogName + SlotName, R: Wait + Clock>(
 pub(crate) fn do_step<L: LogName + SlotName, R: Wait + Clock>(
     rt: &R,
     hub: &Hub<L>,
-    doors: &Doors,
+    listeners: &ListenerHandles,
     sessions: &mut Sessions,
     step: &Step,
 ) -> Result<Done, AllocError> {
@@ -77,7 +77,8 @@ pub(crate) fn do_step<L: LogName + SlotName, R: Wait + Clock>(
         Step::Session(event) => do_event(rt, hub, sessions, event),
         Step::CommitNow(name) => commit_now(rt, hub, sessions, name),
         Step::Steer(slot, steering) => Ok(steer(rt, hub, slot.as_str(), *steering)),
-        Step::Await(line) => Ok(wait_out(rt, hub, doors, line)),
+        Step::Await(line) => Ok(wait_out(rt, hub, listeners, line)),
+        Step::Reload => Ok(reload(rt, hub, listeners)),
         Step::End => Ok(Done::End),
     }
 }
@@ -85,12 +86,12 @@ pub(crate) fn do_step<L: LogName + SlotName, R: Wait + Clock>(
 fn wait_out<L: LogName + SlotName, R: Wait + Clock>(
     rt: &R,
     hub: &Hub<L>,
-    doors: &Doors,
+    listeners: &ListenerHandles,
     line: &Await,
 ) -> Done {
     let waiting = Waiting::new(rt, line);
     for _ in rt.forever() {
-        if let Some(done) = waiting.turn(rt, hub, doors) {
+        if let Some(done) = waiting.turn(rt, hub, listeners) {
             return done;
         }
     }

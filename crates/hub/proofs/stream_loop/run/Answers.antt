@@ -10,7 +10,7 @@ returns-in_err-go_on-clause-turns g c =
     let new = c.go_on.new.self in
     let begun = standing old.walsender old.hold.seat (g.W.Write.contents c.args.to.now) in
     let turned = standing new.walsender new.hold.seat (g.W.Write.contents c.go_on.new.to) in
-    first_turn g.D.WorkDesk.told old.hold.lease.place (Ended c.from_residual.result) c.args.first c.args.desk.now begun turned (c.go_on.ensures.confirms, c.go_on.ensures.serves)
+    first_turn g.D.WorkBackend.told old.hold.lease.place (Ended c.from_residual.result) c.args.first c.args.backend.now begun turned (c.go_on.ensures.confirms, c.go_on.ensures.serves)
     (ended_with_fault c.from_residual.result c.args.first begun turned c.from_residual.ensures.0)
 
 pub loop-init : goal.loop-init
@@ -19,7 +19,7 @@ loop-init g c =
     let new = c.go_on.new.self in
     record {
       serves = c.go_on.ensures.serves;
-      turns = first_turn g.D.WorkDesk.told old.hold.lease.place Answers c.args.first c.args.desk.now (standing old.walsender old.hold.seat (g.W.Write.contents c.args.to.now)) (standing new.walsender new.hold.seat (g.W.Write.contents c.go_on.new.to))
+      turns = first_turn g.D.WorkBackend.told old.hold.lease.place Answers c.args.first c.args.backend.now (standing old.walsender old.hold.seat (g.W.Write.contents c.args.to.now)) (standing new.walsender new.hold.seat (g.W.Write.contents c.go_on.new.to))
           (c.go_on.ensures.confirms, c.go_on.ensures.serves) c.in_ok-go_on.ensures.answers;
       lease = c.go_on.ensures.lease;
     }
@@ -39,7 +39,7 @@ loop-preserved g c =
     (rw same) (rw (same, c.loop.invariant.lease)) c.go_on-in-loop.ensures.confirms c.go_on-in-loop.ensures.serves in
     record {
       serves = one_more old.walsender here.walsender new.walsender before between after c.loop.invariant.serves goes;
-      turns = one_turn_more g.D.WorkDesk.told old.hold.lease.place Answers c.args.first c.next-work.result c.args.desk.now c.loop.desk c.next-work.new.self (standing old.walsender old.hold.seat before) (standing here.walsender here.hold.seat between)
+      turns = one_turn_more g.D.WorkBackend.told old.hold.lease.place Answers c.args.first c.next-work.result c.args.backend.now c.loop.backend c.next-work.new.self (standing old.walsender old.hold.seat before) (standing here.walsender here.hold.seat between)
           (standing new.walsender new.hold.seat after) c.loop.invariant.turns c.next-work.ensures.told turn
           (told_answers c.next-work.result here.walsender told.walsender new.walsender here.hold.seat told.hold.seat new.hold.seat between after c.next-work.ensures.learnt c.in_ok-go_on-2.ensures.answers);
       lease = c.go_on-in-loop.ensures.lease ∙ rw same c.loop.invariant.lease;
@@ -72,5 +72,5 @@ returns-in_err-go_on-2-clause-turns g c =
     let between_turns = standing here.walsender here.hold.seat between in
     let turned = standing new.walsender new.hold.seat after in
     let fault = c.from_residual-in_err-go_on-2.result in
-    one_turn_more g.D.WorkDesk.told old.hold.lease.place (Ended fault) c.args.first c.next-work.result c.args.desk.now c.loop.desk c.next-work.new.self (standing old.walsender old.hold.seat before) between_turns
+    one_turn_more g.D.WorkBackend.told old.hold.lease.place (Ended fault) c.args.first c.next-work.result c.args.backend.now c.loop.backend c.next-work.new.self (standing old.walsender old.hold.seat before) between_turns
     turned c.loop.invariant.turns c.next-work.ensures.told turn (ended_with_fault fault c.next-work.result between_turns turned c.from_residual-in_err-go_on-2.ensures.0)

@@ -1,5 +1,5 @@
 use Rattle.std.proofs.Common.{arith}
-use Rattle.pgoutput.specs.declared.fault.OutFault.TheVariants.{Short, BadMark, BadText}
+use Rattle.pgoutput.specs.declared.fault.PgoutputError.TheVariants.{Short, BadMark, BadText}
 use Rattle.pgoutput.proofs.Whole.{is_found, is_only, is_fault, is_refused, is_cut, is_at_fault, is_stopped}
 use Rattle.pgoutput.proofs.logical.read_logical.Goals as goal
 

@@ -19,7 +19,7 @@ returns-clause-written c =
     (subst (λ (b : ℕ). Writes c.args.at c.write_byte-flags.result c.args.out.now c.write_byte-flags.new.out (b ∷ [])) c.flags_of.ensures c.write_byte-flags.ensures)
     (subst (λ (l : List ℕ). Writes c.write_byte-flags.result c.put_name-name.result c.write_byte-flags.new.out c.put_name-name.new.out (string l)) c.as_str.ensures.value c.put_name-name.ensures)
     (subst (λ (n : ℕ). Writes c.put_name-name.result c.write_int32-kind.result c.put_name-name.new.out c.write_int32-kind.new.out (int32 n)) c.oid_of.ensures c.write_int32-kind.ensures)
-    (subst (λ (n : ℕ). Writes c.write_int32-kind.result c.write_int32.result c.write_int32-kind.new.out c.write_int32.new.out (int32 n)) c.cast_unsigned.ensures c.write_int32.ensures)
+    (subst (λ (n : ℕ). Writes c.write_int32-kind.result c.write_int32.result c.write_int32-kind.new.out c.write_int32.new.out (int32 n)) c.modifier_field.ensures c.write_int32.ensures)
 
 pub returns-clause-short : goal.returns-clause-short
 returns-clause-short c =
@@ -27,4 +27,4 @@ returns-clause-short c =
     let name = c.put_name-name.ensures in
     let kind = c.write_int32-kind.ensures in
     let modifier = c.write_int32.ensures in
-    omega (arith, flags.ends, name.ends, kind.ends, modifier.ends, length-append c.as_str.result.now (0 ∷ []), ap (length {A = ℕ}) c.as_str.ensures.value, length-int32 c.oid_of.result, length-int32 c.cast_unsigned.result, c.requires.name)
+    omega (arith, flags.ends, name.ends, kind.ends, modifier.ends, length-append c.as_str.result.now (0 ∷ []), ap (length {A = ℕ}) c.as_str.ensures.value, length-int32 c.oid_of.result, length-int32 c.modifier_field.result, c.requires.name)

@@ -5,4 +5,4 @@ use Rattle.server.proofs.Segments.{Began}
 use Rattle.server.proofs.conversation.converse.Given as goal
 
 abbrev pub invariant-loop-event : goal.invariant-loop-event
-invariant-loop-event g l = Began g.D.Desk.told l.fn.service (flat_map bytes_heard (take l.event-index l.events)) l.fn.desk l.fn.out.items l.connection l.desk l.out.items
+invariant-loop-event g l = Began g.D.Backend.told l.fn.service (flat_map bytes_heard (take l.event-index l.events)) l.fn.backend l.fn.out.items l.connection l.backend l.out.items

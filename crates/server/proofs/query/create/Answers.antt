@@ -10,5 +10,5 @@ pub returns : goal.returns
 returns g c =
     let told = rw c.as_str.ensures.value at c.create-answer.ensures in
     let says = rw c.as_str-2.ensures.value at c.say_created.ensures in
-    gave g.D.Desk.told (Runs c.args.database.now (Create c.args.slot.now) false) (CreateSlot c.args.slot.now c.create-answer.result ∷ []) (answer_to_create c.args.slot.now c.create-answer.result) c.say_created.result
-    c.args.desk.now c.args.out.now.items c.create-answer.new.self c.say_created.new.out.items (c.create-answer.new.self, told, refl) (c.create-answer.result, refl, refl, refl) says
+    gave g.D.Backend.told (Runs c.args.database.now (Create c.args.slot.now) false) (CreateSlot c.args.slot.now c.create-answer.result ∷ []) (answer_to_create c.args.slot.now c.create-answer.result) c.say_created.result
+    c.args.backend.now c.args.out.now.items c.create-answer.new.self c.say_created.new.out.items (c.create-answer.new.self, told, refl) (c.create-answer.result, refl, refl, refl) says

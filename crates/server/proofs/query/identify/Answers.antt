@@ -9,5 +9,5 @@ use Rattle.server.proofs.query.identify.Goals as goal
 pub returns : goal.returns
 returns g c =
     let says = rw c.as_str.ensures.value at c.say_identified.ensures in
-    gave g.D.Desk.told (Runs c.args.database.now Identify false) (End c.end-end.result ∷ System c.systemid.result.now ∷ []) (answer_to_identify c.systemid.result.now c.end-end.result c.args.database.now) c.say_identified.result
-    c.args.desk.now c.args.out.now.items c.end-end.new.self c.say_identified.new.out.items (c.end-end.new.self, c.end-end.ensures, (c.end-end.new.self, c.systemid.ensures.told, refl)) (c.end-end.result, c.systemid.result.now, refl, refl, refl) says
+    gave g.D.Backend.told (Runs c.args.database.now Identify false) (End c.end-end.result ∷ System c.systemid.result.now ∷ []) (answer_to_identify c.systemid.result.now c.end-end.result c.args.database.now) c.say_identified.result
+    c.args.backend.now c.args.out.now.items c.end-end.new.self c.say_identified.new.out.items (c.end-end.new.self, c.end-end.ensures, (c.end-end.new.self, c.systemid.ensures.told, refl)) (c.end-end.result, c.systemid.result.now, refl, refl, refl) says

@@ -7,11 +7,11 @@ use Rattle.server.proofs.replying.answer_question.Goals as goal
 
 pub returns-in-SearchPath : goal.returns-in-SearchPath
 returns-in-SearchPath g c =
-    rw c.in-SearchPath.is (gave g.D.Desk.told (AnswersQuestion SearchPath) [] path_set c.say_path_set.result c.args.desk.now c.args.out.now.items c.args.desk.now c.say_path_set.new.out.items refl (refl, refl) c.say_path_set.ensures)
+    rw c.in-SearchPath.is (gave g.D.Backend.told (AnswersQuestion SearchPath) [] path_set c.say_path_set.result c.args.backend.now c.args.out.now.items c.args.backend.now c.say_path_set.new.out.items refl (refl, refl) c.say_path_set.ensures)
 
 pub returns-in-DirectoryMode : goal.returns-in-DirectoryMode
 returns-in-DirectoryMode g c =
-    rw c.in-DirectoryMode.is (gave g.D.Desk.told (AnswersQuestion DirectoryMode) [] mode_shown c.say_mode.result c.args.desk.now c.args.out.now.items c.args.desk.now c.say_mode.new.out.items refl (refl, refl) c.say_mode.ensures)
+    rw c.in-DirectoryMode.is (gave g.D.Backend.told (AnswersQuestion DirectoryMode) [] mode_shown c.say_mode.result c.args.backend.now c.args.out.now.items c.args.backend.now c.say_mode.new.out.items refl (refl, refl) c.say_mode.ensures)
 
 pub returns-in-InitialCopy : goal.returns-in-InitialCopy
 returns-in-InitialCopy g c = rw c.in-InitialCopy.is c.refuse_copy.ensures

@@ -8,4 +8,4 @@ use Rattle.server.proofs.replying.refuse_copy.Goals as goal
 
 pub returns : goal.returns
 returns g c =
-    gave g.D.Desk.told (AnswersQuestion InitialCopy) [] (error_and_ready refusals.InitialCopy) c.say_refused_ready.result c.args.desk.now c.args.out.now.items c.args.desk.now c.say_refused_ready.new.out.items refl (refl, refl) c.say_refused_ready.ensures
+    gave g.D.Backend.told (AnswersQuestion InitialCopy) [] (error_and_ready refusals.InitialCopy) c.say_refused_ready.result c.args.backend.now c.args.out.now.items c.args.backend.now c.say_refused_ready.new.out.items refl (refl, refl) c.say_refused_ready.ensures

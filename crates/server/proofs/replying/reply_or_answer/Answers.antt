@@ -12,8 +12,8 @@ returns-in_err-answer_question-in-Some g c =
     let p = err_from_is_err_and c.from_residual-in_err-answer_question-in-Some.result c.from_residual-in_err-answer_question-in-Some.ensures.1 in
     let asked : SpellsQuestion c.args.query.now c.in-Some.question = search rules in
     rw p.1 (
-      tried_as g.D.Desk.told (λ calls. (u : Unit {0}) × (text : List ℕ) × AnswersQuestion c.in-Some.question calls text)
-          (λ calls. (begins : Bool) × (text : List ℕ) × RepliesIn Questions c.args.database.now c.args.query.now begins calls text) c.args.desk.now c.answer_question.new.desk
+      tried_as g.D.Backend.told (λ calls. (u : Unit {0}) × (text : List ℕ) × AnswersQuestion c.in-Some.question calls text)
+          (λ calls. (begins : Bool) × (text : List ℕ) × RepliesIn Questions c.args.database.now c.args.query.now begins calls text) c.args.backend.now c.answer_question.new.backend
           (λ calls part. (false, part.1, inl ((c.in-Some.question, asked, part.2), refl))) c.in_err-answer_question-in-Some.ensures.0,
       c.in_err-answer_question-in-Some.ensures.1,
     )
@@ -21,5 +21,5 @@ returns-in_err-answer_question-in-Some g c =
 pub returns-in-None : goal.returns-in-None
 returns-in-None g c =
     let none : (question : Question) → SpellsQuestion c.args.query.now question → ⊥ = search rules in
-    answered_as g.D.Desk.told c.reply.result (λ begun. Replies (why_of false) c.args.database.now c.args.query.now begun) (λ begun. RepliesIn Questions c.args.database.now c.args.query.now begun) c.args.desk.now c.args.out.now.items c.reply.new.desk c.reply.new.out.items
+    answered_as g.D.Backend.told c.reply.result (λ begun. Replies (why_of false) c.args.database.now c.args.query.now begun) (λ begun. RepliesIn Questions c.args.database.now c.args.query.now begun) c.args.backend.now c.args.out.now.items c.reply.new.backend c.reply.new.out.items
     (λ begun calls text fact. inr (none, fact)) c.reply.ensures

@@ -5,5 +5,5 @@ use Rattle.server.proofs.replying.reply_or_refuse.Goals as goal
 
 pub returns : goal.returns
 returns g c =
-    answered_as g.D.Desk.told c.reply.result (λ begun. Replies (why_of c.in_ok-is_question.is_question) c.args.database.now c.args.query.now begun) (λ begun. RepliesIn Commands c.args.database.now c.args.query.now begun) c.args.desk.now c.args.out.now.items c.reply.new.desk c.reply.new.out.items
+    answered_as g.D.Backend.told c.reply.result (λ begun. Replies (why_of c.in_ok-is_question.is_question) c.args.database.now c.args.query.now begun) (λ begun. RepliesIn Commands c.args.database.now c.args.query.now begun) c.args.backend.now c.args.out.now.items c.reply.new.backend c.reply.new.out.items
     (λ begun calls text fact. (c.in_ok-is_question.is_question, c.in_ok-is_question.ensures, fact)) c.reply.ensures

@@ -8,5 +8,5 @@ use Rattle.server.proofs.replying.tell_publications.Goals as goal
 
 pub returns : goal.returns
 returns g c =
-    gave g.D.Desk.told (AnswersQuestion (questions.Publications c.args.names.now)) (calls.Publications c.args.names.now c.publications-answer.result ∷ []) (publications_told c.publications-answer.result) c.say_publications.result
-    c.args.desk.now c.args.out.now.items c.publications-answer.new.self c.say_publications.new.out.items (c.publications-answer.new.self, c.publications-answer.ensures.told, refl) (c.publications-answer.result, refl, refl) c.say_publications.ensures
+    gave g.D.Backend.told (AnswersQuestion (questions.Publications c.args.names.now)) (calls.Publications c.args.names.now c.publications-answer.result ∷ []) (publications_told c.publications-answer.result) c.say_publications.result
+    c.args.backend.now c.args.out.now.items c.publications-answer.new.self c.say_publications.new.out.items (c.publications-answer.new.self, c.publications-answer.ensures.told, refl) (c.publications-answer.result, refl, refl) c.say_publications.ensures

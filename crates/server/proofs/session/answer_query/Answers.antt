@@ -30,8 +30,8 @@ pub returns-in_err-reply_in : goal.returns-in_err-reply_in
 returns-in_err-reply_in g c =
     let p = err_from_is_err_and c.from_residual.result c.from_residual.ensures.1 in
     rw p.1 (
-      tried_as g.D.Desk.told (λ asked. (begins : Bool) × (text : List ℕ) × RepliesIn c.args.dialect c.args.database c.args.query.now begins asked text)
-          (λ asked. (next : Stage) × (text : List ℕ) × Hears c.args.dialect c.args.database (Query (record { text = c.args.query.now })) asked text next) c.args.desk.now c.reply_in.new.desk
+      tried_as g.D.Backend.told (λ asked. (begins : Bool) × (text : List ℕ) × RepliesIn c.args.dialect c.args.database c.args.query.now begins asked text)
+          (λ asked. (next : Stage) × (text : List ℕ) × Hears c.args.dialect c.args.database (Query (record { text = c.args.query.now })) asked text next) c.args.backend.now c.reply_in.new.backend
           (λ asked part. (cond part.0 (Streaming c.args.database) (Idle c.args.database), part.1, (part.0, part.2, refl))) c.in_err-reply_in.ensures.0,
       c.in_err-reply_in.ensures.1,
     )

@@ -2,7 +2,7 @@
 use Rattle.std.proofs.Common.{List, [], ◌∷◌, ℕ, Result, Ok, Err}
 use Rattle.std.specs.Prelude.{IfOk, Option, Some, None}
 use Rattle.std.specs.List.{AllByRecursion}
-use Rattle.pgoutput.specs.declared.fault.OutFault.{OutFault}
+use Rattle.pgoutput.specs.declared.fault.PgoutputError.{PgoutputError}
 use Rattle.pgoutput.specs.declared.logical.Logical.{Logical}
 use Rattle.pgoutput.specs.declared.logical.Logical.TheVariants as logical
 use Rattle.pgoutput.specs.declared.tuple.Cell.{Cell}
@@ -52,7 +52,7 @@ short_of (logical.Delete m) fits = short_tuple (cells_of m.old) fits.1
 short_of (logical.Truncate m) fits = fits.0
 short_of (logical.Message m) fits = fits.1.1
 
-was_read : (r : Result Logical OutFault) (bytes : List ℕ) → IfOk r (λ m. SpellsLogical bytes m) → IfOk r (λ m. FitsLogical m × IsShort m)
+was_read : (r : Result Logical PgoutputError) (bytes : List ℕ) → IfOk r (λ m. SpellsLogical bytes m) → IfOk r (λ m. FitsLogical m × IsShort m)
 was_read (Ok m) bytes is = (is.in_range, short_of m is.in_range)
 was_read (Err fault) bytes is = tt
 

@@ -10,6 +10,9 @@ spawn-scripted-requires-send-F g c κs within = search (crosses, service.the_syn
 pub spawn-shown-requires-send-F : goal.spawn-shown-requires-send-F
 spawn-shown-requires-send-F g c κs within = search (crosses, service.the_sync) depth 40
 
+pub spawn-watched-requires-send-F : goal.spawn-watched-requires-send-F
+spawn-watched-requires-send-F g c κs within = search (crosses, service.the_sync) depth 40
+
 pub spawn-served-requires-send-F : goal.spawn-served-requires-send-F
 spawn-served-requires-send-F g c κs within = let asked = c.requires in search (crosses, service.the_sync, told.the_sync, flag.the_sync, asked) depth 40
 

@@ -6,4 +6,4 @@ use Rattle.server.proofs.connection.Connection.answer.Goals as goal
 pub returns-then-is_closed-clause-went : goal.returns-then-is_closed-clause-went
 returns-then-is_closed-clause-went g c =
     let new : Connection = record { alloc = c.args.self.now.alloc; service = c.args.self.now.service; stage = c.args.self.now.stage; pending = c.clear.new.self } in
-    went-closed g.D.Desk.told [] c.args.self.now c.args.desk.now c.args.out.now.items new refl refl c.clear.ensures.items (c.is_closed.ensures.0 c.if-is_closed.true)
+    went-closed g.D.Backend.told [] c.args.self.now c.args.backend.now c.args.out.now.items new refl refl c.clear.ensures.items (c.is_closed.ensures.0 c.if-is_closed.true)

@@ -7,4 +7,4 @@ pub returns-clause-went : goal.returns-clause-went
 returns-clause-went g c =
     let turn = rw (c.replace-stage.ensures.value, c.as_slice.ensures) at c.in-Ok.ensures in
     let new : Connection = record { alloc = c.args.self.now.alloc; service = c.args.self.now.service; stage = c.in-Ok.field-0.stage; pending = c.advance.new.self } in
-    turned_went g.D.Desk.told c.args.self.now c.args.desk.now c.args.out.now.items c.in-Ok.field-0 new c.turn-turned.new.desk c.turn-turned.new.out.items refl refl c.advance.ensures.items turn
+    turned_went g.D.Backend.told c.args.self.now c.args.backend.now c.args.out.now.items c.in-Ok.field-0 new c.turn-turned.new.backend c.turn-turned.new.out.items refl refl c.advance.ensures.items turn

@@ -9,7 +9,7 @@ pub unreachable-requires : goal.unreachable-requires
 unreachable-requires g c =
     let s = c.self.inside in
     let p = c.in_ok-lease.lease.place in
-    let low = is_low (λ l. l.place) s.leases.len p s.leases.items c.self.invariant.0 s.leases.ok.0 c.in_ok-lease.lease.inside in
+    let low = is_low (λ l. l.place) s.leases.len p s.leases.items c.self.invariant.0 s.leases.ok.0 c.in_ok-lease.ensures.within in
     let there = lease_there (λ l. l.place) s.slots s.leases.items p c.index_mut.result.now c.in-Some._other c.self.invariant.1 low c.index_mut.ensures.value (sym c.replace.ensures.value ∙ c.in-Some.is) in
     let never : true ≡ false = sym there.1 ∙ c.in_ok-lease.ensures.lease.1 in cc
 

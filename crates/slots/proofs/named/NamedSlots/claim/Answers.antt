@@ -1,7 +1,7 @@
 use Rattle.std.proofs.Common.{sym, ap, subst, ◌∙◌}
 use Rattle.slots.specs.State.{SlotsState, RefusedExactly, claim_refusal, claim_refusal_of}
 use Rattle.slots.proofs.Names.{none_shown}
-use Rattle.slots.proofs.Claiming.{claim_stands, claim_ok, claim_err, claim_lease, claim_only, claim_refused}
+use Rattle.slots.proofs.Claiming.{claim_stands, claim_ok, claim_err, claim_lease, claim_only, claim_refused, claim_within}
 use Rattle.slots.proofs.named.NamedSlots.claim.Goals as goal
 
 pub returns-in_default-clause-refused : goal.returns-in_default-clause-refused
@@ -18,6 +18,11 @@ pub returns-clause-ok : goal.returns-clause-ok
 returns-clause-ok g c =
     let s = c.self.inside in
     claim_ok (λ l. l.place) s.seat c.claim.new.seat s.directory s.slots.items s.places c.args.name.now c.in-Some.place c.self.invariant.0 c.self.invariant.1 (sym c.find.ensures ∙ c.in-Some.is) c.args.self.now c.self.view_is c.claim.result c.claim.ensures
+
+pub returns-clause-within : goal.returns-clause-within
+returns-clause-within g c =
+    let s = c.self.inside in
+    claim_within (λ l. l.place) s.seat c.claim.new.seat s.directory s.slots.items s.places c.args.name.now c.in-Some.place c.self.invariant.0 c.self.invariant.1 (sym c.find.ensures ∙ c.in-Some.is) c.claim.result c.claim.ensures
 
 pub returns-clause-only : goal.returns-clause-only
 returns-clause-only g c =

@@ -43,7 +43,7 @@ invariant_of-self-in-Ok g c =
     let p = c.in_ok-place.place in
     let made = c.in_ok-place.ensures.1 in
     let new : Slot = record { name = c.args.name.now; place = p; confirmed = c.args.position } in
-    let next = is_next s.seat c.create.new.seat c.args.position p s.slots.items s.places c.self.invariant.1 made in
+    let next = is_next s.seat c.create.new.seat c.args.position p s.slots.items s.places c.self.invariant.1 c.in_ok-place.ensures.0 made in
     let items = c.in-Ok.ensures.ok in (
       subst (λ (l : List Slot). IsNamed c.name_place.new.directory l (s.places + 1)) (sym items)
           (subst (λ (n : ℕ). IsNamed c.name_place.new.directory (s.slots.items ++ new ∷ []) (n + 1)) next
@@ -76,7 +76,7 @@ returns-in-Ok-clause-ok g c =
 pub returns-in-Ok-clause-refused : goal.returns-in-Ok-clause-refused
 returns-in-Ok-clause-refused g c =
     let s = c.self.inside in
-    let next = is_next s.seat c.create.new.seat c.args.position c.in_ok-place.place s.slots.items s.places c.self.invariant.1 c.in_ok-place.ensures.1 in
+    let next = is_next s.seat c.create.new.seat c.args.position c.in_ok-place.place s.slots.items s.places c.self.invariant.1 c.in_ok-place.ensures.0 c.in_ok-place.ensures.1 in
     let low = c.in_ok-place.ensures.0 in
     ap (create_refusal c.args.name.now) (sym c.self.view_is)
     ∙ not_refused s.seat s.directory s.slots.items s.places c.args.name.now c.self.invariant.0 (ap is_some (sym c.find.ensures) ∙ sym c.is_some.ensures ∙ c.if-is_some.false) (omega (arith, next, low))
@@ -93,7 +93,7 @@ returns-in-Err-clause-err g c =
 pub returns-in-Err-clause-refused : goal.returns-in-Err-clause-refused
 returns-in-Err-clause-refused g c =
     let s = c.self.inside in
-    let next = is_next s.seat c.create.new.seat c.args.position c.in_ok-place.place s.slots.items s.places c.self.invariant.1 c.in_ok-place.ensures.1 in
+    let next = is_next s.seat c.create.new.seat c.args.position c.in_ok-place.place s.slots.items s.places c.self.invariant.1 c.in_ok-place.ensures.0 c.in_ok-place.ensures.1 in
     let low = c.in_ok-place.ensures.0 in
     subst (λ (f : SlotFault). IsRefusalOrMemory (create_refusal c.args.name.now c.args.self.now) f) (sym c.in-Err.ensures.fault)
     (ap (create_refusal c.args.name.now) (sym c.self.view_is)

@@ -8,4 +8,4 @@ pub invariant_of-result : goal.invariant_of-result
 invariant_of-result g c =
     let seats = c.in_ok-table.ensures.2 in
     subst (λ (slots : List Slot). IsNamed c.new.result slots 0 × StandsIn c.in-Some.seat slots 0) (sym c.new-2.ensures.items)
-    (none_named c.new.result c.new.ensures, none_stand c.in-Some.seat c.in_ok-table.seats.items c.pop.new.self.items seats.0 c.in-Some.ensures.items seats.1)
+    (none_named c.new.result c.new.ensures.none, none_stand c.in-Some.seat c.in_ok-table.seats.items c.pop.new.self.items seats.0 c.in-Some.ensures.items seats.1)

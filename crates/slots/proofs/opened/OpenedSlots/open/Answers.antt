@@ -14,7 +14,7 @@ pub split_seat-seat-requires : goal.split_seat-seat-requires
 split_seat-seat-requires g c =
     let wide = c.args.self.wide in
     let view = c.loop.invariant.1 in
-    (c.loop.invariant.0 ∙ c.args.self.same, omega (arith, wide), splits _ _ (subst (λ m. 0 < m.0.seats) (sym view) (omega arith)))
+    (c.loop.invariant.0 ∙ c.args.self.same, omega (arith, wide), splits _ _ (subst (λ m. 0 < m.0.seats) (sym view) (omega arith)) (subst (λ m. m.0.seats < 2048) (sym view) (let count = c.loop.invariant.2 in let test = c.loop-test.true in let few = c.requires.few in omega (arith, count, test, few))))
 
 pub invariant_of-push : goal.invariant_of-push
 invariant_of-push g c =
@@ -24,7 +24,7 @@ invariant_of-push g c =
     let ok = c.loop.others.ok in
     let small = c.loop.others.small in
     let number : suc (length c.loop.others.items) ≡ c.len.result + 1 = omega (arith, len, ok) in
-    (split.3 ∙ c.loop.invariant.0 ∙ c.requires.name, ap (λ m. m.0.number) me ∙ number, ap (λ m. m.1) me, omega (arith, len, ok, small))
+    (split.3 ∙ c.loop.invariant.0 ∙ c.requires.name, ap (λ m. m.0.number) me ∙ number, ap (λ m. m.1) me, (let count = c.loop.invariant.2 in let test = c.loop-test.true in let few = c.requires.few in omega (arith, len, ok, small, count, test, few)))
 
 pub loop-preserved : goal.loop-preserved
 loop-preserved g c =

@@ -6,7 +6,7 @@ use Rattle.reorder.specs.Taking.{HasTaken}
 use Rattle.reorder.proofs.Settling.{taken_settled}
 use Rattle.walsender.specs.Outgoing.{lent_in, lent_of}
 use Rattle.walsender.specs.Waiting.{ready_states}
-use Rattle.walsender.specs.declared.waiting.Waiting.{Waiting}
+use Rattle.walsender.specs.declared.committed_transaction.CommittedTransaction.{CommittedTransaction}
 use Rattle.walsender.proofs.Noting.{on_ok}
 use Rattle.walsender.proofs.outgoing.Outgoing.add_record.Goals as goal
 
@@ -17,7 +17,7 @@ returns-in-Quiet-clause-grows c =
 
 pub returns-in-Quiet-clause-taken : goal.returns-in-Quiet-clause-taken
 returns-in-Quiet-clause-taken c = λ rs taken.
-    subst (λ (ws : List Waiting). HasTaken (after_giving_all_back c.args.reorder.now (ready_states ws)) rs) (sym c.add_note.ensures.waiting)
+    subst (λ (ws : List CommittedTransaction). HasTaken (after_giving_all_back c.args.reorder.now (ready_states ws)) rs) (sym c.add_note.ensures.waiting)
     (taken_settled c.args.reorder.now (ready_states c.args.self.now.waiting.items) rs c.requires.good.lent taken)
 
 pub returns-in-Ready-clause-tidy : goal.returns-in-Ready-clause-tidy

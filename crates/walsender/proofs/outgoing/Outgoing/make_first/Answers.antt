@@ -6,7 +6,7 @@ use Rattle.std.proofs.Common.{◌≡◌, ◌<◌, ◌≤◌, ◌+◌, ◌-◌, �
 use Rattle.walsender.specs.declared.outgoing.Outgoing.{Outgoing}
 use Rattle.walsender.specs.declared.making.TheConstants.{LEAST_ROOM}
 use Rattle.walsender.specs.Outgoing.{HoldsSame, IsFilled}
-use Rattle.walsender.specs.declared.waiting.Waiting.{Waiting}
+use Rattle.walsender.specs.declared.committed_transaction.CommittedTransaction.{CommittedTransaction}
 use Rattle.walsender.proofs.Frames.{filled_both, first_is, first_moved, less, room_there, same_then}
 use Rattle.walsender.proofs.Placing.{IsPlaced, filled_in_place, made_in_place, same_first}
 use Rattle.walsender.proofs.outgoing.Outgoing.make_first.Goals as goal
@@ -218,11 +218,11 @@ finish_first-requires-clause-room c =
 pub finish_first-requires-clause-waits : goal.finish_first-requires-clause-waits
 finish_first-requires-clause-waits c =
     let f = first_is c.args.self.now.waiting.items c.in-Some.waiting.now c.requires.waits c.in-Some.ensures.value in
-    subst (λ (l : List Waiting). 0 < length l) (sym (f.2 c.next_frame-count.new.waiting)) (omega arith)
+    subst (λ (l : List CommittedTransaction). 0 < length l) (sym (f.2 c.next_frame-count.new.waiting)) (omega arith)
 
 pub finish_first-requires-clause-over : goal.finish_first-requires-clause-over
 finish_first-requires-clause-over c x xs is =
     let f = first_is c.args.self.now.waiting.items c.in-Some.waiting.now c.requires.waits c.in-Some.ensures.value in
     let w = c.next_frame-count.new.waiting in
-    let before = ap (λ (y : Waiting). y.before) c.next_frame-count.ensures.waiting in
-    subst (λ (y : Waiting). (y.before ≡ 0) × (length y.ready.places ≤ y.next)) (same_first w x f.0 xs (sym (f.2 w) ∙ is)) (omega (arith, before), omega arith)
+    let before = ap (λ (y : CommittedTransaction). y.before) c.next_frame-count.ensures.waiting in
+    subst (λ (y : CommittedTransaction). (y.before ≡ 0) × (length y.ready.places ≤ y.next)) (same_first w x f.0 xs (sym (f.2 w) ∙ is)) (omega (arith, before), omega arith)

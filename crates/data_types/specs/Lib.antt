@@ -1,0 +1,14 @@
+pub mod Bytes
+pub mod Calendar
+pub mod Characters
+pub mod Clock
+pub mod DataTypes
+pub mod Decimals
+pub mod Digits
+pub mod Integers
+pub mod Limits
+pub mod Moments
+pub mod Names
+pub mod Sent
+pub mod Truths
+pub mod Uuids

@@ -1,0 +1,66 @@
+//! What a connection asks while it answers: the log's end, the slots, and the publications.
+
+ghost use Rattle.std.specs.Prelude.{◌<◌, ◌^◌, length, IfOk};
+ghost use Rattle.std.specs.List.{AllByRecursion};
+ghost use Rattle.server.specs.Answers.{IsShort, IsShortName};
+
+use crate::backend_fault::BackendFault;
+use crate::refusal::Refusal;
+use crate::table_name::TableName;
+use pqformat::{Items, Text};
+use replcmd::StreamOptions;
+
+/// The backend of a connection. `told` is what one call with its answer says of a backend before and after it; a backend that
+/// tells nothing says `Unit`, one that keeps a record of its calls says that it grew by this one.
+pub trait Backend {
+    ghost use Rattle.server.specs.Calls.{Call, End, System, CreateSlot, DropSlot, StartStream, Flushed, Publications, Tables};
+
+    ghost told: { Self → Call → Self → Type 0 };
+
+    /// The end of the log.
+    fn end(&mut self) -> u64
+        ensures { told self.old (End result) self.new };
+
+    /// The text that names the system.
+    fn systemid(&self) -> &str
+        ensures told { told self.now (System result.now) self.now }
+        ensures short { length result.now < 2 ^ 16 };
+
+    /// Makes a slot; answers its consistent point.
+    fn create(&mut self, slot: &str) -> Result<u64, BackendFault>
+        ensures { told self.old (CreateSlot slot.now result) self.new };
+
+    fn drop_slot(&mut self, slot: &str) -> Result<(), BackendFault>
+        ensures { told self.old (DropSlot slot.now result) self.new };
+
+    /// Begins the stream that these options ask for, for the slot, at this position or at a later one that it has
+    /// confirmed.
+    fn start(
+        &mut self,
+        slot: &str,
+        position: u64,
+        options: &StreamOptions,
+    ) -> Result<(), BackendFault>
+        ensures { told self.old (StartStream slot.now position options.now result) self.new };
+
+    /// Which of these names are publications.
+    fn publications(&mut self, names: &Items<Text>) -> Result<Items<Text>, BackendFault>
+        ensures told { told self.old (Publications names.now result) self.new }
+        ensures short { IfOk result (λ found. AllByRecursion IsShort found) };
+
+    /// The tables of the publications of these names, each once. A name that no publication has adds none.
+    fn tables(&mut self, names: &Items<Text>) -> Result<Items<TableName>, BackendFault>
+        ensures told { told self.old (Tables names.now result) self.new }
+        ensures short { IfOk result (λ tables. AllByRecursion IsShortName tables) };
+
+    /// Drops a slot once nobody holds it; who can't wait, or not for so long, answers that it is held.
+    fn drop_when_free(&mut self, slot: &str) -> Result<(), BackendFault>
+        ensures { told self.old (DropSlot slot.now result) self.new };
+
+    /// A text was refused that is no command, or none that is served, or a question. It is told and asks nothing.
+    fn refused(&self, _text: &str, _refusal: Refusal) {}
+
+    /// A client has flushed all before the position; `ask`: it wants an answer at once.
+    fn flushed(&mut self, position: u64, ask: bool)
+        ensures { told self.old (Flushed position ask) self.new };
+}

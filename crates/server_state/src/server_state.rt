@@ -1,0 +1,292 @@
+//! What the connections of a hub have in common, and who waits for what.
+
+ghost use Rattle.std.specs.Prelude.{◌≡◌, vec_len};
+ghost use Rattle.server_state.specs.Notices.{IsWoken};
+
+use crate::at_once::AtOnce;
+use crate::commit_notice::CommitNotice;
+use crate::fault::HubFault;
+use crate::hub_builder::HubBuilder;
+use crate::pool::Pool;
+use crate::settings::HubSettings;
+use crate::shared::{Places, Shared};
+use crate::spreading::{Unheard, Woken};
+use crate::system::SystemName;
+use authentication::Users;
+use connections::{ConnectionMailbox, Latch, Names, SlotMonitor, Sockets};
+use publication::Publications;
+use server::{Dialect, Service};
+use shared_log::{LogName, LogReader};
+use slots::{SlotName, SlotTable};
+use std::alloc::Global;
+use std::sync::atomic::{AtomicBool, AtomicU32, AtomicU64, AtomicUsize, Ordering};
+use std::sync::{Condvar, Mutex, Wait};
+use std::time::{Clock, Duration};
+use txlog::{Publisher, Receipt};
+
+/// The log and rows of a hub, its slots, its publications, and what commits and notes tell. It isn't `Drop`: `close` ends it.
+pub struct ServerState<L: LogName + SlotName> {
+    pub alloc: Global,
+    pub publications: Publications,
+    pub system: SystemName,
+    pub settings: HubSettings,
+    /// What sessions call, one thread at a time. Each receipt of a commit goes to `tell`, and where the log ends after a note or an
+    /// abort to `tell_end`.
+    pub publisher: Mutex<Publisher<L>>,
+    pub slots: SlotTable<L>,
+    pub(crate) pool: Mutex<Pool<L>>,
+    pub(crate) names: Mutex<Names<L>>,
+    pub notice: Mutex<CommitNotice<L>>,
+    /// One for each stream that may run.
+    pub latches: Vec<Latch>,
+    /// How many connections are served.
+    pub(crate) served: AtomicU32,
+    pub(crate) streams_begun: AtomicU64,
+    no_more_streams: AtomicBool,
+    /// A stream has begun, or none will.
+    changed: Condvar,
+    /// One for each slot that may be there at once.
+    pub(crate) monitors: Vec<SlotMonitor>,
+    pub sockets: Sockets,
+    /// How many connections are heard out that are too many, and their sockets.
+    pub(crate) crowd: AtomicU32,
+    pub(crate) turned_away: Sockets,
+    /// A reader that reads nothing: it finds where streams would begin. Whoever locks the publisher too locks that first.
+    pub(crate) counter: Mutex<LogReader<L>>,
+    /// Those that may connect by their passwords, where passwords are asked.
+    pub(crate) users: Option<Mutex<Users>>,
+    /// How many connections are served whose users haven't proved their passwords yet.
+    pub(crate) strangers: AtomicU32,
+    /// How many records the log has had when it is looked next which of them nobody needs.
+    pub(crate) next_look: AtomicUsize,
+}
+
+impl<L: LogName + SlotName> ServerState<L> {
+    /// An empty log and no slots. Where memory is refused, nothing is left of it.
+    pub fn open<R: Wait>(rt: &R, opened: HubBuilder) -> Result<Self, HubFault>
+        requires log { opened.log.history.seen.book ≡ L.book }
+        requires slots { opened.slots.first.table_id ≡ L.table }
+    {
+        let HubBuilder {
+            alloc,
+            publications,
+            system,
+            log,
+            slots,
+            settings,
+            users,
+        } = opened;
+        match Shared::open(rt, alloc, log, slots, AtOnce::of(&settings)) {
+            Ok(shared) => Ok(ServerState::of(shared, alloc, publications, system, settings, users)),
+            Err(fault) => {
+                drop(publications);
+                drop(system);
+                drop(users);
+                Err(fault)
+            }
+        }
+    }
+
+    /// What is made of these parts, which no connection has reached yet.
+    fn of(
+        shared: Shared<L>,
+        alloc: Global,
+        publications: Publications,
+        system: SystemName,
+        settings: HubSettings,
+        users: Option<Users>,
+    ) -> Self
+        ensures { (result.publications ≡ publications) × (result.system ≡ system)
+            × (result.settings ≡ settings) }
+    {
+        let Shared {
+            places,
+            publisher,
+            pool,
+            counter,
+        } = shared;
+        let Places {
+            table,
+            names,
+            latches,
+            monitors,
+        } = places;
+        ServerState {
+            alloc,
+            publications,
+            system,
+            settings,
+            publisher: Mutex::new(publisher),
+            slots: table,
+            pool: Mutex::new(pool),
+            names: Mutex::new(names),
+            notice: Mutex::new(CommitNotice::new()),
+            latches,
+            served: AtomicU32::new(0),
+            streams_begun: AtomicU64::new(0),
+            no_more_streams: AtomicBool::new(false),
+            changed: Condvar::new(),
+            monitors,
+            sockets: Sockets::new(alloc),
+            crowd: AtomicU32::new(0),
+            turned_away: Sockets::new(alloc),
+            counter: Mutex::new(counter),
+            users: users.map(Mutex::new),
+            strangers: AtomicU32::new(0),
+            next_look: AtomicUsize::new(0),
+        }
+    }
+
+    /// Ends the log. Transactions in progress are left as they are.
+    pub fn close<R: Wait>(self, rt: &R) {
+        let ServerState {
+            alloc: _,
+            publications: _,
+            system: _,
+            settings: _,
+            publisher,
+            slots: _,
+            pool: _,
+            names: _,
+            notice: _,
+            latches: _,
+            served: _,
+            streams_begun: _,
+            no_more_streams: _,
+            changed: _,
+            monitors: _,
+            sockets: _,
+            crowd: _,
+            turned_away: _,
+            counter: _,
+            users: _,
+            strangers: _,
+            next_look: _,
+        } = self;
+        publisher.into_inner().close(rt);
+    }
+
+    /// How the connection of this number is served.
+    pub fn service(&self, number: u32) -> Service {
+        let dialect = if self.settings.answers_postgresql {
+            Dialect::Questions
+        } else {
+            Dialect::Commands
+        };
+        Service { number, dialect }
+    }
+
+    /// For how long a read of a connection waits: half of the time for which the client of a stream may be silent.
+    pub fn silence(&self) -> Option<Duration> {
+        if self.settings.wal_sender_timeout.is_zero() {
+            return None;
+        }
+        Some(self.settings.wal_sender_timeout / 2)
+    }
+
+    /// For how long a write of a connection waits whose client takes nothing.
+    pub fn stalling(&self) -> Option<Duration> {
+        if self.settings.wal_sender_timeout.is_zero() {
+            return None;
+        }
+        Some(self.settings.wal_sender_timeout)
+    }
+
+    /// By when on this clock a connection that begins now has to have said its startup.
+    pub fn startup_until<R: Clock>(&self, rt: &R) -> Option<Duration> {
+        if self.settings.authentication_timeout.is_zero() {
+            return None;
+        }
+        rt.monotonic()
+            .ok()?
+            .checked_add(self.settings.authentication_timeout)
+    }
+
+    /// One more connection is served, unless as many are as may be at once.
+    pub fn admit(&self) -> bool {
+        let before = self.served.fetch_add(1, Ordering::SeqCst);
+        if self.settings.max_connections <= before {
+            self.dismiss();
+            return false;
+        }
+        true
+    }
+
+    /// A connection is served no more.
+    pub fn dismiss(&self) {
+        self.served.fetch_sub(1, Ordering::SeqCst);
+    }
+
+    // ---- what threads wait for
+
+    /// A commit leaves its receipt: streams read on up to it, at least.
+    pub fn tell<R: Wait>(&self, rt: &R, receipt: Receipt<L>) -> Woken
+        ensures { IsWoken (vec_len self.now.latches) receipt.end result }
+    {
+        self.spread(rt, Unheard::of_commit(receipt))
+    }
+
+    /// A note or an abort leaves where the log ended right after it, and no receipt: streams read on up to there, at least, so that
+    /// their clients can confirm it.
+    pub fn tell_end<R: Wait>(&self, rt: &R, end: u64) -> Woken
+        ensures { IsWoken (vec_len self.now.latches) end result }
+    {
+        self.spread(rt, Unheard::of_end(end))
+    }
+
+    /// The connection of the stream with this latch has something to do.
+    pub fn tell_work<R: Wait>(&self, rt: &R, latch: usize) {
+        if let Some(latch) = self.latches.get(latch) {
+            latch.tell_work(rt);
+        }
+    }
+
+    /// Waits while the stream with this latch is held on purpose, unless its connection or the server is over, or its slot was given up.
+    pub fn await_release<S, R: Wait>(
+        &self,
+        rt: &R,
+        mailbox: &ConnectionMailbox<S>,
+        monitor: &SlotMonitor,
+        latch: usize,
+    ) {
+        let Some(latch) = self.latches.get(latch) else {
+            return;
+        };
+        for _ in rt.forever() {
+            let waits = monitor.is_held(rt) && !monitor.is_lost(rt);
+            if !waits || mailbox.is_closed(rt) || self.is_ending() {
+                break;
+            }
+            latch.wait_for_work(rt);
+        }
+    }
+
+    /// One more stream has begun.
+    pub fn count_stream<R: Wait>(&self, rt: &R) {
+        self.streams_begun.fetch_add(1, Ordering::SeqCst);
+        self.signal(rt);
+    }
+
+    /// Wakes those that wait for streams to begin. Whoever looked before waits by now, since it looks under the lock.
+    fn signal<R: Wait>(&self, rt: &R) {
+        drop(self.notice.lock(rt));
+        self.changed.notify_all();
+    }
+
+    /// Waits until so many streams have begun since the hub was opened, or `end_awaiting` was called. What is committed then
+    /// reaches those streams.
+    pub fn await_streams<R: Wait>(&self, rt: &R, count: u64) {
+        drop(
+            self.changed.wait_while(rt, self.notice.lock(rt), |_| {
+                self.streams_begun.load(Ordering::SeqCst) < count
+                    && !self.no_more_streams.load(Ordering::SeqCst)
+            }),
+        );
+    }
+
+    /// Nobody awaits streams from now on, since no more connections come.
+    pub fn end_awaiting<R: Wait>(&self, rt: &R) {
+        self.no_more_streams.store(true, Ordering::SeqCst);
+        self.signal(rt);
+    }
+}

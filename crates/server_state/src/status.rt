@@ -1,0 +1,141 @@
+//! What runs, for whoever looks.
+
+use crate::server_state::ServerState;
+use connections::{SlotKeeping, SlotSnapshot};
+use pqformat::Text;
+use shared_log::LogName;
+use slots::SlotName;
+use std::alloc::{AllocError, Global};
+use std::sync::atomic::Ordering;
+use std::sync::{MutexGuard, Wait};
+use std::time::{Clock, Duration};
+use txlog::kept_place;
+
+/// What a hub serves at one moment.
+#[derive(Drop)]
+pub struct HubStatus {
+    /// How many connections are served.
+    pub connections: u32,
+    /// How many streams have begun since the hub was opened.
+    pub streams_begun: u64,
+    /// The position where the log ends.
+    pub log_end: u64,
+    /// How many records of the log are kept.
+    pub records: usize,
+    /// How many it has room for at once, those included.
+    pub capacity: usize,
+    pub slots: Vec<SlotStatus>,
+}
+
+/// A slot at that moment.
+#[derive(Drop)]
+pub struct SlotStatus {
+    /// None: there was no memory for it.
+    pub name: Option<Text>,
+    /// Up to where its client has confirmed.
+    pub confirmed: u64,
+    /// Whether a stream holds it.
+    pub is_active: bool,
+    /// Whether its stream is held on purpose.
+    pub is_held: bool,
+    /// Up to where its last stream has read the log.
+    pub read: u64,
+    /// How many bytes its streams have sent, and how many transactions.
+    pub sent: u64,
+    pub transactions: u64,
+    /// How many chunks of its last stream are free.
+    pub free_chunks: usize,
+    /// How long ago its client's last status came.
+    pub silent_for: Option<Duration>,
+    /// How many records of the log are kept for it.
+    pub kept: usize,
+    /// Whether it held more than it may, and was given up.
+    pub is_lost: bool,
+}
+
+impl<L: LogName + SlotName> ServerState<L> {
+    /// What is served now. The parts are looked at one after the other, so connections may have gone on in between.
+    pub fn status<R: Wait + Clock>(&self, rt: &R) -> Result<HubStatus, AllocError> {
+        let size = self.log_size(rt);
+        Ok(HubStatus {
+            connections: self.served.load(Ordering::SeqCst),
+            streams_begun: self.streams_begun.load(Ordering::SeqCst),
+            log_end: size.end,
+            records: size.kept,
+            capacity: self.settings.capacity,
+            slots: self.slot_statuses(rt, size.count)?,
+        })
+    }
+
+    fn log_size<R: Wait>(&self, rt: &R) -> LogSize {
+        let publisher = self.publisher.lock(rt);
+        let size = LogSize {
+            end: publisher.end(),
+            count: publisher.count(),
+            kept: publisher.kept(),
+        };
+        MutexGuard::unlock(publisher);
+        size
+    }
+
+    /// The slots, beside a log of so many records.
+    fn slot_statuses<R: Wait + Clock>(
+        &self,
+        rt: &R,
+        count: usize,
+    ) -> Result<Vec<SlotStatus>, AllocError> {
+        let now = rt.monotonic().ok();
+        let mut slots = Vec::new(self.alloc);
+        for monitor in &self.monitors {
+            if let Some(known) = monitor.look(rt, self.alloc)? {
+                let kept = self.kept_for(rt, &known, count);
+                slots.push(status_of(known, now, kept))?;
+            }
+        }
+        Ok(slots)
+    }
+
+    /// How many of so many records are kept for a slot.
+    fn kept_for<R: Wait>(&self, rt: &R, known: &SlotSnapshot, count: usize) -> usize {
+        if known.keeping == SlotKeeping::Lost {
+            return 0;
+        }
+        let mut counter = self.counter.lock(rt);
+        let place = kept_place(&mut *counter, known.confirmed, count);
+        drop(counter);
+        match place {
+            Some(place) => count.saturating_sub(place),
+            None => 0,
+        }
+    }
+}
+
+/// The log at one moment.
+#[derive(Clone, Copy)]
+struct LogSize {
+    /// The position where it ends.
+    end: u64,
+    /// How many records it has had, and how many of them are kept.
+    count: usize,
+    kept: usize,
+}
+
+fn status_of(known: SlotSnapshot, now: Option<Duration>, kept: usize) -> SlotStatus {
+    let silent_for = match (now, known.heard) {
+        (Some(now), Some(heard)) => Some(now.saturating_sub(heard)),
+        _ => None,
+    };
+    SlotStatus {
+        name: known.name,
+        confirmed: known.confirmed,
+        is_active: known.latch.is_some(),
+        is_held: known.control.is_held(),
+        read: known.read,
+        sent: known.sent,
+        transactions: known.transactions,
+        free_chunks: known.free_chunks,
+        silent_for,
+        kept,
+        is_lost: known.keeping == SlotKeeping::Lost,
+    }
+}

@@ -1,0 +1,121 @@
+//! A file of passwords as `.pgpass` (PostgreSQL 15, 34.16): each line is `hostname:port:database:username:password`.
+
+use std::alloc::{AllocError, Global};
+
+/// The user that connects, and its database, which has the same name unless it is told.
+const USER: &[u8] = b"subcat";
+
+/// Where somebody connects, as a line names it.
+#[derive(Clone, Copy)]
+pub struct Place<'a> {
+    host: &'a [u8],
+    port: &'a [u8],
+}
+
+impl<'a> Place<'a> {
+    /// That of an address and a port.
+    pub fn of(address: &'a str) -> Self {
+        match address.rsplit_once(':') {
+            Some((host, port)) => Place {
+                host: without_brackets(host).as_bytes(),
+                port: port.as_bytes(),
+            },
+            None => Place {
+                host: address.as_bytes(),
+                port: b"",
+            },
+        }
+    }
+}
+
+fn without_brackets(host: &str) -> &str {
+    match host.strip_prefix('[') {
+        Some(inner) => inner.strip_suffix(']').unwrap_or(host),
+        None => host,
+    }
+}
+
+/// The password of the first line that fits.
+pub fn password_at(
+    alloc: Global,
+    text: &[u8],
+    place: &Place<'_>,
+) -> Result<Option<Vec<u8>>, AllocError> {
+    for line in text.split(|b| *b == b'\n') {
+        if let Some(escaped) = fitting(without_return(line), place) {
+            return Ok(Some(unescaped(alloc, escaped)?));
+        }
+    }
+    Ok(None)
+}
+
+fn without_return(line: &[u8]) -> &[u8] {
+    let mut rest = line;
+    for _ in 0..line.len() {
+        match rest.split_last() {
+            Some((b'\r', before)) => rest = before,
+            _ => return rest,
+        }
+    }
+    rest
+}
+
+/// The password of a line that fits, as it is written there. One that begins with `#` is none.
+fn fitting<'a>(line: &'a [u8], place: &Place<'_>) -> Option<&'a [u8]> {
+    if line.first() == Some(&b'#') {
+        return None;
+    }
+    let line = behind(line, place.host)?;
+    let line = behind(line, place.port)?;
+    let line = behind(line, USER)?;
+    behind(line, USER)
+}
+
+/// What follows a field and its colon, where the field is this value, or `*`.
+fn behind<'a>(line: &'a [u8], value: &[u8]) -> Option<&'a [u8]> {
+    if let Some(rest) = line.strip_prefix(b"*:".as_slice()) {
+        return Some(rest);
+    }
+    let mut rest = line;
+    for due in value {
+        let (found, after) = letter(rest)?;
+        if found != *due {
+            return None;
+        }
+        rest = after;
+    }
+    rest.strip_prefix(b":".as_slice())
+}
+
+/// The first byte, or the one that a backslash stands before, and what follows.
+fn letter(text: &[u8]) -> Option<(u8, &[u8])> {
+    let (first, rest) = text.split_first()?;
+    if *first != b'\\' {
+        return Some((*first, rest));
+    }
+    let (second, rest) = rest.split_first()?;
+    Some((*second, rest))
+}
+
+/// A password up to its colon, or to the end, without the backslashes before its bytes. A last one stands for itself.
+fn unescaped(alloc: Global, text: &[u8]) -> Result<Vec<u8>, AllocError> {
+    let mut password = Vec::new(alloc);
+    let mut rest = text;
+    for _ in 0..text.len() {
+        let Some((found, after)) = next_of_password(rest) else {
+            return Ok(password);
+        };
+        password.push(found)?;
+        rest = after;
+    }
+    Ok(password)
+}
+
+/// The next byte of a password, and what follows; None at its end.
+fn next_of_password(text: &[u8]) -> Option<(u8, &[u8])> {
+    let (first, after) = text.split_first()?;
+    if *first == b':' {
+        return None;
+    }
+    Some(letter(text).unwrap_or((*first, after)))
+}
