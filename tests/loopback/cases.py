@@ -61,6 +61,7 @@ from json_lines import (
     lines_of_json_tell_a_table_as_it_was,
     lines_of_json_tell_what_a_script_did,
     lines_of_json_tell_what_a_server_sends,
+    lines_of_json_tell_when_they_were_sent,
 )
 from limits import (
     a_client_that_says_nothing_is_asked_for_by_the_system,
@@ -86,6 +87,7 @@ from passwords import a_name_or_password_that_is_none_is_refused, a_password_bec
 from proving import (
     a_password_is_proved_on_each_connection,
     a_password_stands_in_a_file,
+    a_user_has_files_of_its_own,
     nonces_are_new,
     subcat_goes_on_only_with_a_server_that_knows_its_password,
     subcat_proves_its_password,
@@ -471,6 +473,7 @@ ALL = [
     a_name_or_password_that_is_none_is_refused,
     subcat_proves_its_password,
     a_password_stands_in_a_file,
+    a_user_has_files_of_its_own,
     a_password_is_proved_on_each_connection,
     subcat_goes_on_only_with_a_server_that_knows_its_password,
     nonces_are_new,
@@ -495,6 +498,7 @@ ALL = [
     an_output_of_the_other_form_is_left_alone,
     lines_of_json_tell_what_a_script_did,
     lines_of_json_tell_what_a_server_sends,
+    lines_of_json_tell_when_they_were_sent,
     lines_of_json_tell_a_table_as_it_was,
     a_refusal_without_a_reason_is_one_all_the_same,
     what_a_server_says_is_one_line,

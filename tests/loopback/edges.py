@@ -100,7 +100,7 @@ def a_slow_reader_of_the_page_holds_up_nobody(pubd, subcat):
     with Publisher(pubd, CONFIGURATION, options=("--status", "127.0.0.1:0")) as publisher:
         address = "127.0.0.1", publisher.status_port
         with socket.create_connection(address, timeout=60) as stopped:
-            stopped.sendall(b"GET / HTTP/1.1\r\n")
+            stopped.sendall(b"GET / HTTP/1.1\r\nHost: pubd\r\n")
             time.sleep(0.2)
             for each in (signal.SIGSTOP, signal.SIGCONT):
                 os.kill(publisher.process.pid, each)

@@ -6,6 +6,7 @@ import socket
 import struct
 import subprocess
 import tempfile
+import time
 
 from connection import Connection, framed, position
 from driving import Publisher
@@ -284,3 +285,37 @@ def an_output_of_the_other_form_is_left_alone(pubd, subcat):
             wrong += [f"of {count} transactions it holds {output.read_text()!r}"] * (output.read_text() != dumped(*inserted(count)))
         server.process.kill()
     return wrong
+
+
+# Between the beginnings of 1970 and of 2000, in seconds.
+YEAR_2000 = 946_684_800
+
+
+def lines_of_json_tell_when_they_were_sent(pubd, subcat):
+    """By --send-times the last line of each transaction and each note have one member more; a run goes on after such lines."""
+    wrong = []
+    with tempfile.TemporaryDirectory() as folder:
+        configuration, output = (pathlib.Path(folder) / name for name in ("configuration", "output"))
+        configuration.write_text(CONFIGURATION)
+        with Publisher(pubd, configuration) as publisher:
+            creating = Connection(publisher.port)
+            for slot in "stuv":
+                creating.create(slot)
+            creating.close()
+            for key in (1, 2):
+                publisher.commit(f"insert public.item ({key},'a',1,true)", "message 'p' 'q'", time=5)
+            publisher.say("note 'p' 'q'")
+            address, begun = f"127.0.0.1:{publisher.port}", time.time()
+            common = [subcat, "--json", "--messages"]
+            plain = subprocess.run([*common, address, "s", "0/0", "p", "3"], stdout=subprocess.PIPE, timeout=60).stdout.decode()
+            timed = [subprocess.run([*common, "--send-times", *more, address, slot, "0/0", "p", "3"], stdout=subprocess.PIPE, timeout=60).stdout.decode() for slot, more in (("t", []), ("u", ["--follow"]))]
+            for count in (1, 3):
+                subprocess.run([*common, "--send-times", "--follow", "--output", output, address, "v", "0/0", "p", str(count)], timeout=60)
+            timed, ended = [*timed, output.read_text()], time.time()
+        for way, text in zip(("once", "--follow", "--output"), timed):
+            lines = [json.loads(line) for line in text.splitlines()]
+            times = [line.pop("sent") for line in lines if line.get("action") == "C" or line.get("transactional") is False]
+            wrong += [f"{way}: sent at {times}"] * (times != sorted(times) or not all(begun <= at / 1e6 + YEAR_2000 <= ended for at in times))
+            wrong += [f"{way}: other lines: {text}"] * (dumped(*lines) != plain)
+    alone = subprocess.run([subcat, "--send-times", "127.0.0.1:1", "s", "0/0", "p", "1"], stdin=subprocess.DEVNULL, capture_output=True, text=True, timeout=60)
+    return wrong + [f"without --json: {alone}"] * (alone.returncode != 2)

@@ -14,6 +14,7 @@ import threading
 import time
 
 from authentication import FATAL, Guarded, lines_of
+from passwords import PREPARED
 
 sys.path.append(str(pathlib.Path(__file__).resolve().parent.parent.parent / "examples" / "clients"))
 from cluster import PROGRAMS, Cluster, is_installed
@@ -36,6 +37,8 @@ ENDED = "subcat: K6: the server ended the connection early\n"
 
 def environment(password=None, **more):
     given = {name: value for name, value in os.environ.items() if not name.startswith("PG")}
+    # The files of who runs this are none of a test's.
+    given["HOME"] = "/nonexistent"
     return given | ({} if password is None else {"PGPASSWORD": password}) | more
 
 
@@ -54,7 +57,7 @@ def subcat_proves_its_password(pubd, subcat):
     wrong = []
     with Guarded(pubd, lines_of(("subcat", b"pencil", ""))) as server:
         wrong += unlike("the right one", follow(subcat, server.port, "pencil"), 1, LET_IN)
-        for password, said in (("ink", REFUSED), (None, NONE_GIVEN), ("", NONE_GIVEN), ("p\u00e4ncil", "subcat: K9: the password has bytes beyond ASCII\n")):
+        for password, said in (("ink", REFUSED), (None, NONE_GIVEN), ("", NONE_GIVEN), ("p\u00e4ncil", REFUSED)):
             wrong += unlike(password, follow(subcat, server.port, password), 1, said)
             wrong += unlike(password, follow(subcat, server.port, password, "--follow"), 1, said)
         wrong += unlike("the right one again", follow(subcat, server.port, "pencil", "--follow"), 1, LET_IN)
@@ -123,6 +126,41 @@ def a_password_stands_in_a_file(pubd, subcat):
     with Guarded(pubd, lines_of(("subcat", b"a:b\\c d", ""))) as server, tempfile.TemporaryDirectory() as folder:
         path = written(folder, "*:*:*:*:a\\:b\\\\c d\n", server.port)
         wrong += unlike("an escaped password", follow(subcat, server.port, None, "--password-file", path), 1, LET_IN)
+    return wrong
+
+
+def a_user_has_files_of_its_own(pubd, subcat):
+    """The user is --user, or PGUSER, or subcat; the password that of --password-file, PGPASSFILE or ~/.pgpass, in this order."""
+    wrong = []
+    lines = lines_of(("subcat", b"pencil", ""), ("me", b"mine", ""), ("you", b"yours", ""))
+    with Guarded(pubd, lines) as server, tempfile.TemporaryDirectory() as folder:
+        home = pathlib.Path(folder)
+        usual, other = home / ".pgpass", home / "other"
+
+        def unlike_as(what, due, *more, **given):
+            words = [subcat, *more, f"127.0.0.1:{server.port}", "s", "0/0", "p", "0"]
+            ran = subprocess.run(words, env=environment(HOME=folder, **given), stdin=subprocess.DEVNULL, capture_output=True, text=True, timeout=60)
+            return unlike(what, ran, 1, due)
+
+        wrong += unlike_as("no file", NONE_GIVEN)
+        usual.write_text("*:*:me:me:mine\n*:*:subcat:subcat:pencil\n*:*:*:you:ink\n")
+        usual.chmod(0o600)
+        other.write_text("*:*:*:you:yours\n")
+        other.chmod(0o600)
+        wrong += unlike_as("the usual user", LET_IN) + unlike_as("--user", LET_IN, "--user", "me")
+        wrong += unlike_as("PGUSER", LET_IN, PGUSER="me") + unlike_as("--user before PGUSER", LET_IN, "--user", "me", PGUSER="you")
+        wrong += unlike_as("no PGUSER", LET_IN, PGUSER="") + unlike_as("a wrong one", f'server: 28P01 {FATAL} "you"\n', PGUSER="you")
+        wrong += unlike_as("PGPASSFILE", LET_IN, PGUSER="you", PGPASSFILE=str(other)) + unlike_as("no PGPASSFILE", LET_IN, PGPASSFILE="")
+        wrong += unlike_as("--password-file first", LET_IN, "--user", "you", "--password-file", other, PGPASSFILE=str(usual))
+        wrong += unlike_as("PGPASSWORD first", LET_IN, "--user", "you", PGPASSWORD="yours")
+        wrong += unlike_as("a PGPASSFILE that isn't there", NONE_GIVEN, PGPASSFILE=f"{folder}/none")
+        for mode in (0o640, 0o604):
+            usual.chmod(mode)
+            wrong += unlike_as(f"mode {mode:o}", f"{OPEN.rstrip()}; {usual} is not used\n{NONE_GIVEN}")
+        wrong += unlike_as("a folder", f"subcat: the password file is no plain file; {folder} is not used\n{NONE_GIVEN}", PGPASSFILE=folder)
+        usual.chmod(0o600)
+        for name in ("", 9001 * "n"):
+            wrong += unlike_as("no name", "subcat: K9: the user's name is empty, too long, or has a zero byte\n", "--user", name)
     return wrong
 
 
@@ -320,6 +358,10 @@ def subcat_proves_its_password_to_postgresql(pubd, subcat):
         wrong += unlike("the right one", follow(subcat, cluster.port, "pencil"), 1, LET_IN)
         for password, said in (("ink", REFUSED), (None, NONE_GIVEN)):
             wrong += unlike(password, follow(subcat, cluster.port, password, "--follow"), 1, said)
+        for password in PREPARED:
+            asked(cluster, f"ALTER ROLE subcat PASSWORD '{password}'", "postgres")
+            wrong += unlike(ascii(password), follow(subcat, cluster.port, password), 1, LET_IN)
+        asked(cluster, "ALTER ROLE subcat PASSWORD 'pencil'", "postgres")
         allow(cluster, "md5")
         wrong += unlike("a verifier of SCRAM under md5", follow(subcat, cluster.port, "pencil"), 1, LET_IN)
         asked(cluster, "SET password_encryption = 'md5'; ALTER ROLE subcat PASSWORD 'pencil'", "postgres")

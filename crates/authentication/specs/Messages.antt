@@ -1,10 +1,9 @@
 -- The messages of an exchange that proves a password (PostgreSQL 15, 55.7): AuthenticationSASL, AuthenticationSASLContinue and
 -- AuthenticationSASLFinal of the server, SASLInitialResponse and SASLResponse of the client.
-use Rattle.std.specs.Prelude.{ℕ, ◌+◌, ◌==◌, List, [], ◌∷◌, ◌++◌, length, Option, Some, None, option_map, Result, Ok, codes, if◌then◌else◌}
+use Rattle.std.specs.Prelude.{ℕ, ◌+◌, List, [], ◌∷◌, ◌++◌, length, Option, None, option_map, Result, codes}
 use Rattle.pqformat.specs.Fields.{int32}
-use Rattle.pqformat.specs.Steps.{◌>>=◌}
 use Rattle.frames.specs.declared.fault.FrameFault.{FrameFault}
-use Rattle.frames.specs.Frame.{raw_at}
+use Rattle.frames.specs.Frame.{body_alone, limit_alone}
 use Rattle.authentication.specs.declared.password_message.TheConstants.{PASSWORD, MOST_PASSWORD_BYTES}
 use Rattle.authentication.specs.declared.sasl.TheConstants.{AUTHENTICATION, SASL, SASL_CONTINUE, SASL_FINAL}
 
@@ -27,11 +26,11 @@ sasl_final text = sasl_message SASL_FINAL text
 -- ---- the client's
 
 abbrev pub password_limit : ℕ → Option ℕ
-password_limit kind = if kind == PASSWORD then Some MOST_PASSWORD_BYTES else None
+password_limit = limit_alone PASSWORD MOST_PASSWORD_BYTES
 
 abbrev pub password_raw : Option ((ℕ × List ℕ) × ℕ) → Option (List ℕ × ℕ)
 password_raw raw = option_map (λ r. (r.0.1, r.1)) raw
 
 -- the body of the message at the front, and how many bytes the whole takes; None while it isn't there whole
 abbrev pub framed_password : List ℕ → Result (Option (List ℕ × ℕ)) FrameFault
-framed_password bytes = raw_at password_limit bytes >>= λ raw. Ok (password_raw raw)
+framed_password bytes = body_alone PASSWORD MOST_PASSWORD_BYTES bytes

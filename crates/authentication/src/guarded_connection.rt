@@ -72,7 +72,7 @@ impl GuardedConnection {
         }
     }
 
-    /// The user that was let in, if one was asked for a password. It is given once.
+    /// The user that was let in; None where none was asked for a password. It is given once.
     pub fn take_user(&mut self) -> Option<Text>
         ensures user { result ≡ self.old.user }
         ensures same { (self.new.guard ≡ self.old.guard) × (self.new.connection ≡ self.old.connection) }
@@ -102,7 +102,7 @@ impl GuardedConnection {
         self.guard.is_none() && self.connection.has_command()
     }
 
-    /// More has come.
+    /// More has come. `AllocError` where memory for it is refused.
     pub fn push(&mut self, bytes: &[u8]) -> Result<(), AllocError>
         ensures guarded { is_none self.old.guard ≡ false →
             self.new.connection ≡ self.old.connection }
@@ -116,7 +116,7 @@ impl GuardedConnection {
     /// Answers one startup or message of the exchange, the next, for these users. False: it isn't there whole, or the user is let in
     /// already.
     ///
-    /// H1 is want of memory, and it closes the connection without a word: what stood in `out` stands there, and no more.
+    /// `Memory` (H1) closes the connection without a word: what stood in `out` stands there, and no more.
     pub fn authenticate(&mut self, users: &Users, out: &mut BytesMut) -> Result<bool, ConnFault>
         // The connection hears of nothing but the startup and what follows the proof.
         ensures turned { IfOk result
@@ -219,8 +219,8 @@ impl GuardedConnection {
         });
     }
 
-    /// Answers one startup or frame of what has come, the next, as `Connection::answer` does. Before the user is let in it answers
-    /// nothing.
+    /// Answers one startup or frame of what has come, the next, as `Connection::answer` does, with its `Memory` (H1) and
+    /// `Closed` (H2). Before the user is let in it answers nothing.
     pub fn answer<D: Backend>(
         &mut self,
         backend: &mut D,
@@ -241,7 +241,7 @@ impl GuardedConnection {
         self.connection.answer(backend, out)
     }
 
-    /// Ends the stream that stops, as `Connection::stopped` does.
+    /// Ends the stream that stops, as `Connection::stopped` does, with its `Memory` (H1).
     pub fn stopped(&mut self, out: &mut BytesMut) -> Result<Phase, ConnFault>
         requires { guarded_phase self.old.guard self.old.connection.stage ≡ Phase.Stopping }
         ensures ended { IfOk result

@@ -10,7 +10,8 @@ use std::alloc::{AllocError, Global};
 /// How many random bytes a nonce is made of, as PostgreSQL makes its own.
 pub const NONCE_BYTES: usize = 18;
 
-/// The nonce of these bytes, which are to be drawn anew for each connection: in base64, so that it is printable and has no comma.
+/// The nonce of these bytes, which are to be drawn anew for each connection: in base64, so that it is printable and has no
+/// comma. `AllocError` where memory for it is refused.
 #[tactic(auto, unfolding(scram::specs::Coding::base64))]
 pub fn nonce_of(alloc: Global, drawn: &[u8; NONCE_BYTES]) -> Result<Items<u8>, AllocError>
     ensures { IfOk result (λ nonce. nonce ≡ base64 drawn.now) }

@@ -12,7 +12,7 @@ use pqformat::{Items, Text};
 use scram::ExchangeFault;
 use std::alloc::{AllocError, Global};
 
-/// The most bytes of a name that is repeated: PostgreSQL has no longer ones.
+/// The most bytes of a name that is repeated: PostgreSQL has no longer ones (PostgreSQL 15, 4.1.1).
 pub(crate) const MOST_NAME_BYTES: usize = 63;
 
 fn push_field(
@@ -59,6 +59,7 @@ pub(crate) fn say_fatal(
     let fields = fatal_fields(alloc, code, text)?;
     let frame = Back::ErrorResponse(ErrorResponse { fields });
     let written = write_back(&frame, out);
+    // Let go by one call, which keeps the proof short.
     drop(frame);
     written
 }

@@ -111,7 +111,7 @@ fn open_session(
     }
 }
 
-/// Declines encryption.
+/// Declines encryption (PostgreSQL 15, 55.2.10 and 55.2.11).
 #[tactic(auto, using(pqformat::proofs::Putting::in_place))]
 fn decline(out: &mut BytesMut) -> Result<Stage, AllocError>
     ensures fresh { IfOk result (λ next. next ≡ Fresh) }

@@ -47,7 +47,9 @@ pub struct BadLine {
     pub fault: LineFault,
 }
 
-/// The users of a file's text. Empty lines are passed over.
+/// The users of a file's text. Empty lines are passed over. A line without a name before a colon is `Name`, one of a user that
+/// has a line already `Twice`, one without a verifier that is served `Verifier`, and one with an empty name between its commas
+/// `Publication`; each is told with the line's number. Or `Memory`.
 pub fn users_in(alloc: Global, text: &str) -> Result<Items<User>, BadLine> {
     let mut users = Vec::new(alloc);
     for (index, line) in text.lines().enumerate() {

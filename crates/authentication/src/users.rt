@@ -52,7 +52,7 @@ pub struct Users {
 }
 
 impl Users {
-    /// The user of this name. Where a name stood twice, the last one would count.
+    /// The user of this name; None where there is none. Where a name stood twice, the last one would count.
     pub fn user_of(&self, name: &str) -> Option<&User>
         ensures { option_map (λ user. user.now) result ≡ user_of self.now name.now }
     {
@@ -76,6 +76,7 @@ impl Users {
     }
 
     /// Of whom a proof is asked that calls itself so: an unknown user is asked as others are, and in the same time.
+    /// `AllocError` where memory is refused.
     pub fn account_of(&self, alloc: Global, name: &str) -> Result<Account, AllocError>
         ensures { IfOk result (λ account. IsAccountOf self.now name.now account) }
     {

@@ -39,14 +39,14 @@ impl Catalog {
         self.tables.as_slice()
     }
 
-    /// The table of this OID.
+    /// The table of this OID; None where none has it.
     pub fn table(&self, oid: u32) -> Option<&Table>
         ensures { option_copied result ≡ table_of oid self.now }
     {
         self.tables.as_slice().iter().find(|table| table.oid == oid)
     }
 
-    /// The table of this name: its schema, a dot and its own name.
+    /// The table of this name: its schema, a dot and its own name. None where none has it.
     pub fn named(&self, name: &str) -> Option<&Table>
         ensures value { option_copied result ≡ table_named name.now self.now }
         ensures fits { IfSome result (λ table. IsTable table.now) }

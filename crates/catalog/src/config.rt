@@ -19,7 +19,9 @@ use toml::Value;
 pub const MAX_TABLES: usize = 256;
 
 impl Catalog {
-    /// The tables that the text of a configuration names, in its order. What a table is told by stands in docs/CONFIGURATION.md.
+    /// The tables that the text of a configuration names, in its order. What a table is told by stands in
+    /// docs/CONFIGURATION.md. A text that is no TOML is `CatalogFault::NotToml` (N1), tables that are told otherwise are
+    /// `BadTables` (N1), with what is wrong first. Or `Memory` (N2).
     pub fn from_toml(alloc: Global, text: &str) -> Result<Self, CatalogFault>
         ensures { Names result (named_by text.now) }
     {
@@ -27,7 +29,8 @@ impl Catalog {
         Catalog::of_document(alloc, &document)
     }
 
-    /// The tables that the document of a configuration names.
+    /// The tables that the document of a configuration names. What is told otherwise than docs/CONFIGURATION.md says is
+    /// `CatalogFault::BadTables` (N1), with what is wrong first. Or `Memory` (N2).
     pub fn of_document(alloc: Global, document: &Value) -> Result<Self, CatalogFault>
         ensures { ReadsTables result (tables_in (view document.now)) }
     {

@@ -34,7 +34,8 @@ fn is_without_dot(text: &str) -> bool
     text.as_bytes().iter().all(|b| *b != b'.')
 }
 
-/// The name that a value of a configuration is: 1 to 63 bytes, no zero byte and no dot.
+/// The name that a value of a configuration is: 1 to 63 bytes, as in PostgreSQL (PostgreSQL 15, 4.1.1), no zero byte and no
+/// dot. None of any other value.
 #[tactic(auto, unfolding(crate::specs::Config::name_in))]
 pub fn name_in(value: &Value) -> Option<&str>
     ensures value { option_copied result ≡ name_in (view value.now) }
@@ -85,7 +86,7 @@ pub(crate) fn kind_in(value: &Value) -> Option<Kind>
     Kind::named(value.as_str()?)
 }
 
-/// The names of a list of one or more, each once.
+/// The names of a list of one or more, each once; None of any other value. `AllocError` where memory for them is refused.
 #[tactic(auto, unfolding(crate::specs::Config::names_in))]
 pub fn names_in(alloc: Global, value: &Value) -> Result<Option<Items<Text>>, AllocError>
     ensures { IfOk result (λ names. names ≡ names_in (view value.now)) }

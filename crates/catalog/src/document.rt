@@ -6,7 +6,8 @@ use crate::config_fault::CatalogFault;
 use std::alloc::Global;
 use toml::Value;
 
-/// What a TOML text says, as one table of its members. A text that is no TOML is N1.
+/// What a TOML text says, as one table of its members. A text that is no TOML is `CatalogFault::NotToml` (N1), with the line at
+/// which reading stops. Or `Memory` (N2).
 pub fn read_document(alloc: Global, text: &str) -> Result<Value, CatalogFault>
     ensures { ReadsDocument result (document_of text.now) }
 {

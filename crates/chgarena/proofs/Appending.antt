@@ -34,37 +34,6 @@ module _ (places : List (Option ℕ)) (used counts : List ℕ) (good : IsPages p
   pub room_seen : c * 16384 + 16384 ≤ length places
   room_seen = let l = low_seen in omega (arith, good.room)
 
--- what was read of a chunk that has room for an entry of this length
-pub record HasRoom (places : List (Option ℕ)) (used counts : List ℕ) (c u n size : ℕ) : Type 0 where
-  pub low : c < length used
-  pub counted : length counts ≡ length used
-  pub few : c < 2 ^ 32
-  pub used_is : u ≡ get_or used c 0
-  pub count_is : n ≡ get_or counts c 0
-  pub lines : n * 4 ≤ u
-  pub fits : u + (size + 4) ≤ 16384
-  pub room : c * 16384 + 16384 ≤ length places
-
-pub has_room : (places : List (Option ℕ)) (used counts : List ℕ) (good : IsPages places used counts) (seen : List (List (List ℕ))) (view : pages places counts ≡ seen) (c : ℕ) (in' : c < length seen)
-    (u n size : ℕ) → u ≡ get_or used c u → n ≡ get_or counts c n → bytes_taken (get_or seen c []) + (size + 4) ≤ 16384 → HasRoom places used counts c u n size
-has_room places used counts good seen view c in' u n size e e' room =
-    let low' : c < length used = low_seen places used counts good seen view c in' in
-    let used' : u ≡ get_or used c 0 = e ∙ get_or_default used c u 0 low' in
-    let count' : n ≡ get_or counts c 0 = e' ∙ get_or_default counts c n 0 (omega (arith, good.counted)) in
-    let all = used_seen places used counts good seen view c in' in
-    let many = count_seen places used counts good seen view c in' in
-    let sum = taken_is (get_or seen c []) in
-    record {
-      low = low';
-      counted = good.counted;
-      few = omega (arith, good.few);
-      used_is = used';
-      count_is = count';
-      lines = omega arith;
-      fits = omega arith;
-      room = room_seen places used counts good seen view c in';
-    }
-
 -- the places of one chunk change
 module _ (places places' : List (Option ℕ)) (used counts : List ℕ) (good : IsPages places used counts) (c u n : ℕ) (low : c < length used)
     (same : (i : ℕ) → i < length used → i ≢ c → places_of places' i ≡ places_of places i) where
@@ -283,3 +252,17 @@ fresh_pages_good places m long low = record {
       let e : get_or (replicate m 0) i 0 ≡ 0 = get_or-replicate m i 0 0 (omega (arith, length-replicate {A = ℕ} m 0)) in
       subst P (sym e) (no_page (places_of places i));
 }
+
+-- a chunk that contracts see so gets an entry, by what they see of it
+pub added : (places places' : List (Option ℕ)) (used counts : List ℕ) (good : IsPages places used counts) (seen : List (List (List ℕ))) (view : pages places counts ≡ seen) (c : ℕ) (in' : c < length seen) (entry : List ℕ) (u n : ℕ)
+    → u ≡ bytes_taken (get_or seen c []) → n ≡ length (get_or seen c []) → bytes_taken (get_or seen c []) + (length entry + 4) ≤ 16384 → places' ≡ with_entry places c n (u - n * 4) entry
+    → IsPages places' (set used c (u + (4 + length entry))) (set counts c (n + 1)) × (pages places' (set counts c (n + 1)) ≡ set seen c (get_or seen c [] ++ entry ∷ []))
+added places places' used counts good seen view c in' entry u n u_is n_is room places_is =
+    let low = low_seen places used counts good seen view c in' in
+    let u' : u ≡ get_or used c 0 = u_is ∙ used_seen places used counts good seen view c in' in
+    let n' : n ≡ get_or counts c 0 = n_is ∙ count_seen places used counts good seen view c in' in
+    let room' : bytes_taken (get_or (pages places counts) c []) + (length entry + 4) ≤ 16384 = subst (λ (ps : List (List (List ℕ))). bytes_taken (get_or ps c []) + (length entry + 4) ≤ 16384) (sym view) room in
+    rw (places_is, u', n') (
+      appended_good places used counts good c entry low room',
+      appended places used counts good c entry low room' ∙ ap (λ ps. set ps c (get_or ps c [] ++ entry ∷ [])) view,
+    )

@@ -38,7 +38,8 @@ impl Model for Arena {
 impl Arena {
     ghost use Rattle.chgarena.specs.Strands.{IsOf, IsPushed, arena_without, entries_of, fills, has_room};
 
-    /// An arena of this many chunks, each 16,384 bytes, without strands. No other call takes memory.
+    /// An arena of this many chunks, each 16,384 bytes, without strands. `AllocError` where memory for them is refused; no
+    /// other call takes memory.
     pub fn new(alloc: Global, chunks: usize) -> Result<Self, AllocError>
         requires { chunks < 2 ^ 32 }
         ensures { IfOk result (λ a. a ≡ replicate chunks None) }
@@ -100,8 +101,8 @@ impl Arena {
         Strand { head: None }
     }
 
-    /// Adds an entry to a strand of this arena: to its last chunk if that has room, else to a free chunk, else it is refused.
-    /// A refusal changes nothing.
+    /// Adds an entry to a strand of this arena: to its last chunk if that has room, else to a free chunk. `Full` where there is
+    /// neither; nothing changes then.
     pub fn push(&mut self, strand: &mut Strand, entry: &[u8]) -> Result<(), Full>
         requires of { IsOf self.old strand.old }
         requires fits { length entry.now ≤ 16380 }

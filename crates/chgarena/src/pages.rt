@@ -76,8 +76,8 @@ impl Pages {
         requires room { bytes_taken (get_or self.old chunk []) + (length entry.now + 4) ≤ 16384 }
         ensures { self.new ≡ slice_set self.old chunk (get_or self.old chunk [] ++ entry.now ∷ []) }
     {
-        let used = self.used[chunk];
-        let count = self.counts[chunk];
+        let used = CHUNK - self.left(chunk);
+        let count = self.count(chunk);
         write_entry(&mut self.region, chunk, count, used - count * LINE, entry);
         self.used[chunk] = used + (LINE + entry.len());
         self.counts[chunk] = count + 1;

@@ -132,11 +132,13 @@ impl Applier {
 
     /// Takes what comes next of the stream.
     ///
-    /// K1 where it is no frame of a stream: none that a server sends, another than CopyData and ErrorResponse, or a CopyData
-    /// that holds no message or keepalive. K2 at Begin inside a transaction, any other message outside one, a Commit whose
-    /// position isn't its Begin's, and a tuple with another count of cells than its table has columns. K3 at a table that
-    /// wasn't told on this connection. K4 at an ErrorResponse. K5 for memory. K8 at a Commit whose end isn't past its position, so
-    /// that nothing is applied twice, whatever comes.
+    /// `Frame` (K1) where it is no frame of a stream: none that a server sends, another than CopyData and ErrorResponse, or a
+    /// CopyData that holds no message or keepalive. `Order` (K2), where messages don't follow as they should (PostgreSQL 15,
+    /// 55.5.3): at Begin or a message of no transaction inside one, any other message outside one, a Commit whose position
+    /// isn't its Begin's, and a tuple with another count of cells than its table has columns. `UnknownRelation` (K3) at a table
+    /// that wasn't told on this connection. `Server` (K4) at an ErrorResponse. `Memory` (K5). `CommitEnd` (K8) at a Commit
+    /// whose end isn't past its position, so that nothing is applied twice, whatever comes. A fault is answered again until
+    /// `reconnect`.
     pub fn take(&mut self, bytes: &[u8]) -> Result<(), ClientFault>
         // Whole words are taken one after the other; a fault is answered where it stands.
         ensures takes { Takes self.old self.new bytes.now result }

@@ -15,7 +15,7 @@ pub(crate) type Tables = IndexMap<u32, usize>;
 
 /// The change names tables that were told, and its tuples have as many cells as those have columns.
 ///
-/// K3 at a table that wasn't told, K2 at a tuple of another length.
+/// `UnknownRelation` (K3) at a table that wasn't told, `Order` (K2) at a tuple of another length.
 pub(crate) fn judge(tables: &Tables, message: &Logical) -> Result<(), ClientFault>
     ensures { result ≡ judgement_of_change tables.now.entries message.now }
 {

@@ -148,6 +148,7 @@ impl Progress {
         match &mut self.half {
             Some(half) if judged.is_ok() => Ok(half.push(position, message)?),
             half => {
+                // Let go by one call, which keeps the proof short.
                 drop(message);
                 if half.is_some() {
                     return judged;
@@ -172,6 +173,7 @@ impl Progress {
         ensures { Makes result self.old self.new (after_note self.old.half self.old end message) }
     {
         if self.half.is_some() {
+            // Let go by one call, which keeps the proof short.
             drop(message);
             return Err(ClientFault::Order);
         }
@@ -190,6 +192,7 @@ impl Progress {
         ensures err { OnErr result (self.new ≡ self.old) }
     {
         if message.position < self.position {
+            // Let go by one call, which keeps the proof short.
             drop(message);
             return Ok(());
         }

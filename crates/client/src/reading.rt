@@ -11,7 +11,7 @@ use std::alloc::Global;
 
 /// The word at the front, and how many bytes its frame takes; None while no frame is there whole.
 ///
-/// K1 at what is no frame of a stream, K4 at an ErrorResponse, K5 for memory.
+/// `Frame` (K1) at what is no frame of a stream, `Server` (K4) at an ErrorResponse, `Memory` (K5).
 pub(crate) fn read_word(alloc: Global, bytes: &[u8]) -> Result<Option<(Word, usize)>, ClientFault>
     ensures reads { Reads bytes.now result }
     ensures memory { result ≡ Err ClientFault.Memory → TakesMemory bytes.now }
@@ -20,6 +20,7 @@ pub(crate) fn read_word(alloc: Global, bytes: &[u8]) -> Result<Option<(Word, usi
         Ok(None) => Ok(None),
         Ok(Some((frame, size))) => {
             let word = word_of(alloc, &frame);
+            // Let go before the way out, which keeps the proof short.
             drop(frame);
             Ok(Some((word?, size)))
         }

@@ -2,17 +2,8 @@
 use Rattle.std.proofs.Common.{◌≡◌, ℕ, zero, suc, ◌+◌, ◌*◌, ◌≤◌, ◌^◌, ℤ, pos, negsuc, neg_ℤ, ◌+ℤ◌, ◌-ℤ◌, Bool, true, false, cond, List, [], ◌∷◌, Option, Some, None, SomeIff, FitsSigned, refl, sym, ap, subst, ◌∙◌, arith}
 use Rattle.std.proofs.Math.IntN.{+ℤ_idl}
 use Rattle.std.specs.Int.{w64}
-use Rattle.std.specs.Char.{digit_value}
-use Rattle.std.specs.Str.Parse.{digits_value_after}
 use Rattle.conditions.specs.Parts.{fits_64, integer_if}
 use Rattle.conditions.proofs.Growing.{tested_fits, fits_tested}
-
-pub value_grows : (n : ℕ) (digits : List ℕ) → n ≤ digits_value_after 10 n digits
-value_grows n [] = omega arith
-value_grows n (b ∷ digits) = omega (arith, value_grows (n * 10 + digit_value b) digits)
-
-pub too_large : (limit v b all : ℕ) (tail : List ℕ) → digits_value_after 10 v (b ∷ tail) ≡ all → limit ≤ v * 10 + digit_value b → limit ≤ all
-too_large limit v b all tail is over = omega (arith, is, over, value_grows (v * 10 + digit_value b) tail)
 
 -- ---- after a sign
 

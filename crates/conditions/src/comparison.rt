@@ -1,4 +1,4 @@
-//! The signs between two operands.
+//! The signs between two operands (PostgreSQL 15, 9.2).
 
 ghost use Rattle.std.specs.Prelude.{◌≡◌};
 ghost use Rattle.conditions.specs.Truth.{holds};

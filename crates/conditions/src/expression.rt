@@ -31,6 +31,7 @@ pub enum Expression {
 }
 
 impl Expression {
+    /// A copy; `AllocError` where memory for it is refused.
     #[cycle(copying)]
     pub fn copy(&self, alloc: Global) -> Result<Expression, AllocError>
         ensures { IfOk result (λ e. shape e ≡ shape self.now) }
@@ -136,7 +137,7 @@ impl Expression {
         }
     }
 
-    /// Adds the columns that it names and that aren't there yet.
+    /// Adds the columns that it names and that aren't there yet. `AllocError` where memory for them is refused.
     pub fn gather(&self, columns: &mut Vec<usize>) -> Result<(), AllocError>
         ensures { OnOk result
             (columns.new.items ≡ with_places_of (shape self.now) columns.old.items) }

@@ -1,4 +1,4 @@
-//! From the text of a filter to its tokens.
+//! From the text of a filter to its tokens (PostgreSQL 15, 4.1).
 
 ghost use Rattle.std.specs.Prelude.{◌⊎◌, List, IfErr, ◌≡◌, ◌<◌, ◌∷◌, ◌++◌, IfOk, IfSome, Some, length, false};
 ghost use Rattle.std.specs.List.{list_any};
@@ -188,7 +188,7 @@ pub fn behind_blanks(text: &[u8]) -> &[u8]
     after_run(Class::Blank, text)
 }
 
-/// The first token, and what follows it; None where only blanks are left.
+/// The first token, and what follows it; None where only blanks are left. `AllocError` where memory for it is refused.
 pub fn token_of(alloc: Global, text: &[u8]) -> Result<Option<(Token, &[u8])>, AllocError>
     ensures value { IfOk result (λ x. lent x ≡ token_at text.now) }
     ensures shorter { IfOk result (λ x. IfSome x (λ y. length y.1.now < length text.now)) }
@@ -232,7 +232,7 @@ fn has_stray(tokens: &[Token]) -> bool
     tokens.iter().any(|token| is_stray(token))
 }
 
-/// The tokens that the text spells; Syntax where it spells none.
+/// The tokens that the text spells; `Syntax` (X1) where it spells none. Or `Memory` (X6).
 #[tactic(auto, using(crate::proofs::Lexemes::tokens_found, crate::proofs::Lexemes::tokens_only, crate::proofs::Lexemes::tokens_none))]
 pub fn read_tokens(alloc: Global, text: &str) -> Result<Vec<Token>, FilterFault>
     ensures found { IfOk result (λ tokens. Spells text.now tokens.items) }

@@ -25,7 +25,8 @@ pub enum Place {
 }
 
 impl Place {
-    /// The place after one word more; Syntax where the word can't stand here.
+    /// The place after one word more; `Syntax` (X1) where the word can't stand here. Or `Memory` (X6). Numbers of over 64 bits
+    /// and too many levels are told in the part alone.
     pub fn next(
         self,
         alloc: Global,
@@ -151,7 +152,7 @@ fn answered(alloc: Global, part: Part, is_negated: bool, word: &Word) -> Result<
     }
 }
 
-/// The one part after the last word; Syntax where something still waits.
+/// The one part after the last word; `Syntax` (X1) where something still waits. Or `Memory` (X6).
 #[tactic(auto, using(crate::proofs::Stacking::ends_none))]
 pub fn whole(alloc: Global, pending: &mut Vec<Pending>, place: Place) -> Result<Part, FilterFault>
     ensures { GivesPart result (outcome parts (state_of pending.old.items place)) }

@@ -3,7 +3,7 @@
 ghost use Rattle.std.specs.Prelude.{◌≡◌, ◌^◌, IfOk, slice_get};
 ghost use Rattle.conditions.specs.Conditions.{Bytes, Number};
 ghost use Rattle.conditions.specs.Shapes.{shape};
-ghost use Rattle.conditions.specs.Steps.{IsNumberOf, condition_asked, number_asked, text_asked, whole_number};
+ghost use Rattle.conditions.specs.Steps.{IsNumberOf, condition_asked, next_number, number_asked, text_asked, turn_of, whole_number};
 ghost use Rattle.conditions.specs.Truth.{datum_at, is_true, truth as truth_in, truth_of_comparison};
 
 use crate::comparison::Comparison;
@@ -22,6 +22,19 @@ pub struct Step {
     pub(crate) asked: Asked,
     pub(crate) next_if_true: usize,
     pub(crate) next_if_not: usize,
+}
+
+impl Step {
+    /// The number of the step that is asked next, after this answer.
+    pub(crate) fn next(&self, answer: bool) -> usize
+        ensures { result ≡ next_number answer (turn_of self.now) }
+    {
+        if answer {
+            self.next_if_true
+        } else {
+            self.next_if_not
+        }
+    }
 }
 
 /// A comparison of the column at a place with a literal, each sign and kind that is asked often by itself; or another condition.

@@ -12,7 +12,7 @@ use std::alloc::{AllocError, Global};
 use tables::RowRef;
 
 impl Expression {
-    /// Its steps. The one that is asked first stands last.
+    /// Its steps. The one that is asked first stands last. `AllocError` where memory for them is refused.
     pub fn steps(&self, alloc: Global) -> Result<Vec<Step>, AllocError>
         ensures { IfOk result (λ steps. AreStepsOf steps.items (shape self.now)) }
     {
@@ -69,11 +69,7 @@ pub fn holds_by(steps: &[Step], row: &RowRef<'_>) -> bool
     let mut next = steps.len() + 1;
     while next > 1 {
         let step = &steps[next - 2];
-        next = if step.asked.holds(row, &mut last) {
-            step.next_if_true
-        } else {
-            step.next_if_not
-        };
+        next = step.next(step.asked.holds(row, &mut last));
     }
     next == 1
 }

@@ -3,7 +3,7 @@
 ghost use Rattle.std.specs.Prelude.{◌≡◌};
 ghost use Rattle.conditions.specs.Truth.{both, certain, either, is_true, opposite};
 
-/// What a condition is of a row.
+/// What a condition is of a row: one of SQL's three truth values (PostgreSQL 15, 9.1).
 #[derive(Clone, Copy, Debug, PartialEq, Eq)]
 pub enum Truth {
     True,

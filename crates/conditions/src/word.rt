@@ -37,7 +37,7 @@ pub enum Word {
 }
 
 impl Word {
-    /// What the token says over these columns.
+    /// What the token says over these columns. `AllocError` where memory for it is refused.
     pub fn of(alloc: Global, token: &Token, columns: &[Column]) -> Result<Word, AllocError>
         ensures { IfOk result (λ w. seen_word w ≡ word_at columns.now token.now) }
     {
@@ -91,7 +91,7 @@ fn of_text(alloc: Global, text: &[u8]) -> Result<Word, AllocError>
     Ok(of_literal(Literal::Text(Items::new(bytes)), None))
 }
 
-/// A keyword in either case, or else a bare name, which is meant in lower case.
+/// A keyword in either case, or else a bare name, which is meant in lower case (PostgreSQL 15, 4.1.1).
 fn of_bare(alloc: Global, bytes: &[u8], columns: &[Column]) -> Result<Word, AllocError>
     ensures { IfOk result
         (λ w. seen_word w

@@ -47,8 +47,9 @@ impl Model for Config {
     ghost invariant = { λ c. IsServer c.server };
 }
 
-/// Why the text is no configuration, in lines for whoever wrote it. A fault of publications is told with their names, a filter that
-/// is none with a mark under the byte at fault, of a text that is no TOML what stopped its reader, and a column of no type by its name.
+/// Why the text is no configuration, in lines for whoever wrote it. A fault of publications is told with their names, a filter
+/// that is none with a mark under the byte at fault, of a text that is no TOML what stopped its reader, and a column of no type
+/// by its name. `AllocError` where memory for them is refused.
 pub fn explained(alloc: Global, text: &str, fault: &ConfigFault) -> Result<String, AllocError> {
     match fault {
         ConfigFault::Publications(why) => of_publications(alloc, text, fault, *why),
@@ -160,7 +161,9 @@ fn is_shown(word: &str) -> bool {
 }
 
 impl Config {
-    /// The configuration that a TOML text names.
+    /// The configuration that a TOML text names. The first fault is answered: `Catalog` where the text is no TOML or its tables
+    /// are told otherwise (N1), `Publications` where its publications are (P3 to P6, P8), `BadServer` where its server is, or
+    /// another member stands there. Want of memory is `Catalog` (N2), `Publications` (P7) or `Memory`, by what was read.
     pub fn from_toml(alloc: Global, text: &str) -> Result<Self, ConfigFault>
         ensures { Names result (named_by text.now) }
     {

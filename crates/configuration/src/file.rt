@@ -28,7 +28,8 @@ impl ConfigFileFault {
     }
 }
 
-/// The configuration in the file at this path.
+/// The configuration in the file at this path. `Read` where it can't be read, or is no text; `Config` where it is no
+/// configuration, with lines that tell why. Or `Memory`.
 pub fn config_at(rt: &HostRuntime, path: &str) -> Result<Config, ConfigFileFault> {
     match fs::read_to_string(rt, path) {
         Ok(text) => config_in(rt.alloc(), text.as_str()),

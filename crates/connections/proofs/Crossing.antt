@@ -18,7 +18,7 @@ use Rattle.connections.specs.contracts.arrival.Arriving as arriving
 use Rattle.connections.specs.contracts.hold.Hold as hold
 use Rattle.connections.specs.contracts.inbox.Inbox as inbox
 use Rattle.connections.specs.contracts.latch.Latch as latch
-use Rattle.connections.specs.contracts.slot_monitor.SlotSnapshot as known
+use Rattle.connections.specs.contracts.slot_snapshot.SlotSnapshot as known
 use Rattle.connections.specs.contracts.slot_monitor.SlotMonitor as monitor
 use Rattle.connections.specs.contracts.sockets.ServedSocket as served
 use Rattle.connections.specs.contracts.sockets.Sockets as sockets
@@ -42,13 +42,7 @@ latch_sync = declared_sync latch.the_type (search (heap.crosses, sendable) depth
 known_send : IsSend known.the_row
 known_send = declared_send known.the_type (
   search sendable,
-  (
-    search (text.the_send, sendable) depth 10,
-    (
-      search (text.the_send, sendable) depth 10,
-      (search sendable, (search sendable depth 10, (search sendable, (search sendable, (search sendable, (search sendable, (search sendable, (search sendable depth 20, (search sendable depth 10, (search sendable depth 20, (search sendable, (search sendable, (search sendable, (keeping.the_send, tt)))))))))))))),
-    ),
-  ),
+  (search (text.the_send, sendable) depth 10, (search sendable, (search sendable depth 10, (search sendable, (search sendable, (search sendable, (search sendable, (search sendable, (search sendable depth 20, (search sendable depth 10, (search sendable depth 30, (search sendable depth 20, (search sendable, (search sendable, (search sendable, (keeping.the_send, tt)))))))))))))))),
 )
 
 pub monitor_sync : IsSync monitor.the_row

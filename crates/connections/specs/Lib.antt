@@ -1,4 +1,5 @@
 pub mod Crowds
+pub mod FlushLags
 pub mod Inboxes
 pub mod Names
 pub mod StreamControl

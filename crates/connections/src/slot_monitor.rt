@@ -3,8 +3,10 @@
 ghost use Rattle.std.specs.Prelude.{◌≤◌};
 
 use crate::commit_counter::CommitCounter;
+use crate::flush_lag::moment;
 use crate::slot_keeping::SlotKeeping;
-use crate::stream_control::{StreamCommand, StreamControl};
+use crate::slot_snapshot::{SlotSnapshot, is_short};
+use crate::stream_control::StreamCommand;
 use pqformat::Text;
 use std::alloc::{AllocError, Global};
 use std::mem;
@@ -20,113 +22,6 @@ pub struct SlotMonitor {
     moved: Condvar,
 }
 
-/// What is known of a slot.
-#[derive(Drop)]
-pub struct SlotSnapshot {
-    /// A slot is at this place.
-    is_open: bool,
-    /// Its name, unless there was no memory for it.
-    pub name: Option<Text>,
-    /// The user that made it, where one had to prove its password.
-    owner: Option<Text>,
-    pub confirmed: u64,
-    /// Which latch wakes its stream, while one runs.
-    pub latch: Option<usize>,
-    /// Up to where its last stream has read the log.
-    pub read: u64,
-    /// Up to where any of its streams has read the log, or its client has confirmed.
-    reached: u64,
-    /// How many bytes its streams have sent, and how many transactions.
-    pub sent: u64,
-    pub transactions: u64,
-    /// How many chunks of its last stream are free.
-    pub free_chunks: usize,
-    /// The frame that is being sent.
-    counter: CommitCounter,
-    /// When its client's last status came, on the clock.
-    pub heard: Option<Duration>,
-    pub control: StreamControl,
-    /// The connection of its stream was cut on purpose.
-    was_cut: bool,
-    /// Transactions in progress filled the chunks of one of its streams.
-    was_full: bool,
-    /// A tenth of its stream's chunks isn't free.
-    is_short: bool,
-    pub keeping: SlotKeeping,
-}
-
-/// Whether a stream counts as short of chunks: from a tenth that is free on, until a half is.
-fn is_short(free: usize, chunks: usize, was_short: bool) -> bool {
-    let enough = if was_short { chunks / 2 } else { chunks / 10 };
-    free < enough
-}
-
-impl SlotSnapshot {
-    fn nothing() -> Self {
-        SlotSnapshot {
-            is_open: false,
-            name: None,
-            owner: None,
-            confirmed: 0,
-            latch: None,
-            read: 0,
-            reached: 0,
-            sent: 0,
-            transactions: 0,
-            free_chunks: 0,
-            counter: CommitCounter::new(),
-            heard: None,
-            control: StreamControl::loose(),
-            was_cut: false,
-            was_full: false,
-            is_short: false,
-            keeping: SlotKeeping::Nothing,
-        }
-    }
-
-    /// Of a slot that was made.
-    fn opened(name: Option<Text>, owner: Option<Text>, confirmed: u64) -> Self {
-        let mut known = SlotSnapshot::nothing();
-        known.is_open = true;
-        known.name = name;
-        known.owner = owner;
-        known.confirmed = confirmed;
-        known.reached = confirmed;
-        known.keeping = SlotKeeping::Reserved;
-        known
-    }
-
-    /// A copy, for whoever looks. None: no slot is there.
-    fn copy(&self, alloc: Global) -> Result<Option<Self>, AllocError> {
-        if !self.is_open {
-            return Ok(None);
-        }
-        let name = match &self.name {
-            Some(name) => Some(Text::copy_of(alloc, name.as_str())?),
-            None => None,
-        };
-        Ok(Some(SlotSnapshot {
-            is_open: true,
-            name,
-            owner: None,
-            confirmed: self.confirmed,
-            latch: self.latch,
-            read: self.read,
-            reached: self.reached,
-            sent: self.sent,
-            transactions: self.transactions,
-            free_chunks: self.free_chunks,
-            counter: self.counter,
-            heard: self.heard,
-            control: self.control,
-            was_cut: self.was_cut,
-            was_full: self.was_full,
-            is_short: self.is_short,
-            keeping: self.keeping,
-        }))
-    }
-}
-
 impl SlotMonitor {
     pub fn new() -> Self {
         SlotMonitor {
@@ -137,10 +32,10 @@ impl SlotMonitor {
 
     // ---- whoever makes and drops slots
 
-    /// A slot was made here, by this user if any, confirmed at this position.
-    pub fn open<R: Wait>(&self, rt: &R, name: Option<Text>, owner: Option<Text>, confirmed: u64) {
+    /// A slot was made here, confirmed at this position.
+    pub fn open<R: Wait>(&self, rt: &R, name: Option<Text>, confirmed: u64) {
         let mut known = self.known.lock(rt);
-        let before = mem::replace(&mut *known, SlotSnapshot::opened(name, owner, confirmed));
+        let before = mem::replace(&mut *known, SlotSnapshot::opened(name, confirmed));
         drop(known);
         drop(before);
     }
@@ -168,6 +63,7 @@ impl SlotMonitor {
         let mut known = self.known.lock(rt);
         known.latch = Some(latch);
         known.counter = CommitCounter::new();
+        known.lag.begin();
         known.was_cut = false;
         drop(known);
         self.moved.notify_all();
@@ -175,7 +71,7 @@ impl SlotMonitor {
 
     /// Up to where the stream has read and was confirmed, and how many of so many chunks are free. It answers whether a tenth of them
     /// isn't any more.
-    pub fn report<R: Wait>(
+    pub fn report<R: Wait + Clock>(
         &self,
         rt: &R,
         read: u64,
@@ -183,7 +79,11 @@ impl SlotMonitor {
         free_chunks: usize,
         chunks: usize,
     ) -> bool {
+        let now = moment(rt);
         let mut known = self.known.lock(rt);
+        if let Some(now) = now {
+            known.lag.note(read, confirmed, now);
+        }
         known.read = read;
         known.free_chunks = free_chunks;
         let before = known.confirmed;
@@ -277,20 +177,6 @@ impl SlotMonitor {
         let asks = known.control.take_ask();
         drop(known);
         asks
-    }
-
-    // ---- whoever asks for the slot
-
-    /// Whether this user may use the slot that is here: the one that made it, or anyone where none had to prove its password.
-    pub fn is_open_to<R: Wait>(&self, rt: &R, user: Option<&str>) -> bool {
-        let known = self.known.lock(rt);
-        let is_open_to = match (&known.owner, user) {
-            (Some(owner), Some(user)) => owner.as_str() == user,
-            (Some(_), None) => false,
-            (None, _) => true,
-        };
-        drop(known);
-        is_open_to
     }
 
     // ---- whoever gives records back

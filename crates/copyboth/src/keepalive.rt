@@ -30,7 +30,8 @@ pub struct Keepalive {
     pub ask: bool,
 }
 
-/// Adds the body of a primary keepalive (PostgreSQL 15, 55.4) at the end of `out`; refused, adds nothing.
+/// Adds the body of a primary keepalive (PostgreSQL 15, 55.4) at the end of `out`. `AllocError` where memory is refused;
+/// nothing is added then.
 ///
 /// ```text
 /// Byte1('k') | Int64 end of the log at the server | Int64 clock | Byte1 1: answer at once, 0: no need

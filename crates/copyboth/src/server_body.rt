@@ -18,7 +18,8 @@ pub enum ServerBody<'a> {
 
 /// The body that the bytes spell, all of them. What an XLogData holds is lent and not copied.
 ///
-/// B1 where the bytes end inside a field, B2 where no body has the first byte, B3 at bytes after a keepalive.
+/// `Short` (B1) where the bytes end inside a field, `UnknownKind` (B2) where no body has the first byte, `Trailing` (B3) at
+/// bytes after a keepalive.
 pub fn read_server(bytes: &[u8]) -> Result<ServerBody<'_>, CopyFault>
     // What is read is spelled so,
     ensures found { IfOk result (λ b. SpellsServer bytes.now b) }

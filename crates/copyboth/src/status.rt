@@ -30,7 +30,8 @@ pub struct Status {
     pub ask: bool,
 }
 
-/// Adds the body of a standby status update at the end of `out`; refused, adds nothing.
+/// Adds the body of a standby status update (PostgreSQL 15, 55.4) at the end of `out`. `AllocError` where memory is refused;
+/// nothing is added then.
 ///
 /// ```text
 /// Byte1('r') | Int64 written | Int64 flushed | Int64 applied | Int64 clock | Byte1 1: answer at once, 0: no need
@@ -56,7 +57,8 @@ fn put_status(message: &Status, out: &mut BytesMut) -> Result<(), AllocError>
 
 /// The status that the bytes of a client spell, all of them.
 ///
-/// B1 where the bytes end inside a field, B2 where the first byte is another, B3 at bytes after a status.
+/// `Short` (B1) where the bytes end inside a field, `UnknownKind` (B2) where the first byte is another, `Trailing` (B3) at
+/// bytes after a status.
 pub fn read_client(bytes: &[u8]) -> Result<Status, CopyFault>
     // What is read is spelled so,
     ensures found { IfOk result (λ s. SpellsStatus bytes.now s) }

@@ -41,7 +41,8 @@ impl<'a> Model for XLogData<'a> {
     } };
 }
 
-/// Adds the body of an XLogData (PostgreSQL 15, 55.4) at the end of `out`; refused, adds nothing.
+/// Adds the body of an XLogData (PostgreSQL 15, 55.4) at the end of `out`. `AllocError` where memory is refused; nothing is
+/// added then.
 ///
 /// ```text
 /// Byte1('w') | Int64 start of the data | Int64 end of the log at the server | Int64 clock | Byten data

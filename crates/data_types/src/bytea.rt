@@ -1,4 +1,4 @@
-//! bytea: the hex format, in which it is sent, and the escape format.
+//! bytea: the hex format, in which it is sent, and the escape format (PostgreSQL 15, 8.4.1 and 8.4.2).
 
 ghost use Rattle.std.specs.Prelude.{◌≡◌, ◌+◌, ◌-◌, ◌*◌, ◌++◌, ◌<◌, ◌∷◌, [], true, None, IfOk, IfSome, OnOk};
 ghost use Rattle.std.specs.Char.{digit_value, is_ascii_hexdigit};

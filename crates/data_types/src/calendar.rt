@@ -1,4 +1,4 @@
-//! date: days by the Gregorian calendar, counted as Julian days.
+//! date: days by the Gregorian calendar, counted as Julian days (PostgreSQL 15, 8.5 and 8.5.1.1).
 
 ghost use Rattle.std.specs.Prelude.{◌≡◌, ◌<◌, ◌≤◌, ◌+◌, ◌^◌, IfSome, codes, false};
 ghost use Rattle.std.specs.Option.{option_map};

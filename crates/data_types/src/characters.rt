@@ -1,4 +1,4 @@
-//! text, varchar(n) and char(n), in UTF-8.
+//! text, varchar(n) and char(n), in UTF-8 (PostgreSQL 15, 8.3).
 
 ghost use Rattle.std.specs.Prelude.{◌≡◌, ◌≤◌, length};
 ghost use Rattle.data_types.specs.Characters.{begins_character, character_count, has_no_zero, is_char_text, is_varchar_text, unpadded};

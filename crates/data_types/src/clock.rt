@@ -1,4 +1,4 @@
-//! time: microseconds since midnight.
+//! time: microseconds since midnight (PostgreSQL 15, 8.5.1.2).
 
 ghost use Rattle.std.specs.Prelude.{◌≡◌, ◌<◌, ◌≤◌, ◌+◌, ◌*◌, ◌^◌, IfSome};
 ghost use Rattle.std.specs.Option.{option_map};

@@ -1,4 +1,4 @@
-//! numeric: which text is one that is sent.
+//! numeric: which text is one that is sent (PostgreSQL 15, 8.1.2).
 
 ghost use Rattle.std.specs.Prelude.{◌≡◌, ◌≤◌, length};
 ghost use Rattle.data_types.specs.Decimals.{are_zeros, decimal_at, digit_count, has_places, is_finite_text, is_infinity, is_numeric_text, is_sent_decimal, is_tidy, is_whole_text, is_zero, lent_decimal, takes_infinity, unsigned_at, whole_count};

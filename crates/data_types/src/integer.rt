@@ -1,4 +1,4 @@
-//! int2, int4 and int8.
+//! int2, int4 and int8 (PostgreSQL 15, 8.1.1).
 
 ghost use Rattle.std.specs.Prelude.{◌≡◌};
 ghost use Rattle.data_types.specs.Integers.{fits_bits, width_bits, integer_of, is_integer_text, magnitude_of, negative_of, positive_of};

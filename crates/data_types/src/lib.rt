@@ -13,7 +13,6 @@ mod clock;
 mod data_type;
 mod decimal;
 mod digits;
-mod fault;
 mod integer;
 mod limits;
 mod moment;
@@ -23,5 +22,4 @@ mod truth;
 mod uuid_text;
 
 pub use data_type::DataType;
-pub use fault::DataTypeFault;
 pub use limits::{CharacterLimit, DecimalPlaces, MAX_CHARACTERS, MAX_PRECISION};

@@ -3,10 +3,10 @@
 ghost use Rattle.std.specs.Prelude.{◌≡◌, ◌≤◌};
 ghost use Rattle.data_types.specs.declared.limits.TheConstants.{MAX_CHARACTERS, MAX_PRECISION};
 
-/// The most characters that a varchar(n) or a char(n) may be declared with.
+/// The most characters that a varchar(n) or a char(n) may be declared with (PostgreSQL 15, 8.3).
 pub const MAX_CHARACTERS: u32 = 10_485_760;
 
-/// The most digits that a numeric(p,s) may be declared with.
+/// The most digits that a numeric(p,s) may be declared with (PostgreSQL 15, 8.1.2).
 pub const MAX_PRECISION: u16 = 1000;
 
 /// How many characters a text may have.
@@ -53,7 +53,8 @@ pub struct DecimalPlaces {
 impl DecimalPlaces {
     ghost use Rattle.data_types.specs.Limits.{places_of};
 
-    /// None of no digits, of more than may be declared, and of more after the point than in all, which PostgreSQL allows and this doesn't.
+    /// The limit of so many digits, and so many of them after the point. None of no digits, of more than may be declared, and
+    /// of more after the point than in all, which PostgreSQL allows (PostgreSQL 15, 8.1.2) and this doesn't.
     #[tactic(auto, using(crate::proofs::Declared::no_places))]
     pub fn new(precision: u64, scale: u64) -> Option<Self>
         ensures { result ≡ places_of precision scale }

@@ -1,4 +1,4 @@
-//! timestamp and timestamptz: microseconds since Julian day 0, at UTC.
+//! timestamp and timestamptz: microseconds since Julian day 0, at UTC (PostgreSQL 15, 8.5 and 8.5.1.3).
 
 ghost use Rattle.std.specs.Prelude.{◌≡◌, ◌<◌, ◌≤◌, ◌+◌, ◌*◌, ◌^◌, IfSome};
 ghost use Rattle.std.specs.Option.{option_map};

@@ -1,4 +1,4 @@
-//! bool.
+//! bool (PostgreSQL 15, 8.6).
 
 ghost use Rattle.std.specs.Prelude.{◌≡◌, codes};
 ghost use Rattle.data_types.specs.Truths.{abridges, begins_word, is_no, is_truth_text, is_yes, truth_at, truth_of, truth_of_word};

@@ -1,4 +1,4 @@
-//! uuid.
+//! uuid (PostgreSQL 15, 8.12).
 
 ghost use Rattle.std.specs.Prelude.{◌≡◌, IfOk};
 ghost use Rattle.data_types.specs.Uuids.{hex_digits, is_hyphen_place, is_uuid_text, is_uuid_byte};

@@ -1,12 +1,15 @@
 -- What a server asks of one who connects, and what a client answers (PostgreSQL 15, 55.7: the messages Authentication..,
 -- SASLInitialResponse and SASLResponse).
-use Rattle.std.specs.Prelude.{ℕ, ◌+◌, ◌==◌, List, ◌∷◌, ◌++◌, length, Option, Some, None, option_map, Result, Ok, if◌then◌else◌}
+use Rattle.std.specs.Prelude.{ℕ, ◌+◌, ◌==◌, List, [], ◌∷◌, ◌++◌, length, codes, Option, option_map, Result, if◌then◌else◌}
 use Rattle.std.specs.Int.{w32}
 use Rattle.pqformat.specs.Fields.{int32, number_at, string}
-use Rattle.pqformat.specs.Steps.{◌>>=◌}
 use Rattle.frames.specs.declared.authentication_ok.TheConstants.{AUTHENTICATION}
 use Rattle.frames.specs.declared.fault.FrameFault.{FrameFault}
-use Rattle.frames.specs.Frame.{raw_at}
+use Rattle.frames.specs.Frame.{body_alone}
+use Rattle.frames.specs.Startup.{startup, startup_body}
+use Rattle.frames.specs.declared.startup.Startup.{Startup}
+use Rattle.frames.specs.declared.startup.Startup.TheVariants.{Session}
+use Rattle.frames.specs.declared.startup.TheConstants.{PROTOCOL_VERSION}
 use Rattle.follower.specs.declared.request.TheConstants.{MOST_REQUEST_BYTES}
 use Rattle.follower.specs.declared.request.RequestKind.{RequestKind}
 use Rattle.follower.specs.declared.request.RequestKind.TheVariants.{Nothing, Cleartext, Md5, Sasl, SaslContinue, SaslFinal, Other}
@@ -14,15 +17,9 @@ use Rattle.follower.specs.declared.sasl_response.TheConstants.{PASSWORD}
 
 -- ---- the server's
 
-abbrev pub request_limit : ℕ → Option ℕ
-request_limit kind = if kind == AUTHENTICATION then Some MOST_REQUEST_BYTES else None
-
-abbrev pub request_raw : Option ((ℕ × List ℕ) × ℕ) → Option (List ℕ × ℕ)
-request_raw raw = option_map (λ r. (r.0.1, r.1)) raw
-
 -- the body of the message at the front, and how many bytes the whole takes; None while it isn't there whole
 abbrev pub framed_request : List ℕ → Result (Option (List ℕ × ℕ)) FrameFault
-framed_request bytes = raw_at request_limit bytes >>= λ raw. Ok (request_raw raw)
+framed_request bytes = body_alone AUTHENTICATION MOST_REQUEST_BYTES bytes
 
 -- "Int32(n)" of each
 abbrev pub kind_of : ℕ → RequestKind
@@ -39,6 +36,13 @@ abbrev pub request_of : List ℕ → Option (RequestKind × List ℕ)
 request_of body = option_map (λ number. (kind_of number.0, number.1)) (number_at w32 body)
 
 -- ---- the client's
+
+-- the session that it begins (PostgreSQL 15, 55.2.1 and 55.4)
+abbrev pub session_of : List ℕ → Startup
+session_of user = Session (record { name = codes "user"; value = user } ∷ record { name = codes "replication"; value = codes "database" } ∷ [])
+
+unfoldable pub session_startup : List ℕ → List ℕ
+session_startup user = startup PROTOCOL_VERSION (startup_body (session_of user))
 
 -- the length counts itself and the body
 abbrev pub sasl_response : List ℕ → List ℕ

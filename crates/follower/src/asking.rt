@@ -6,7 +6,9 @@ ghost use Rattle.frames.specs.Front.{front_body};
 use crate::authenticating::authenticate;
 use crate::fault::{FollowFault, told};
 use crate::incoming::Incoming;
+use crate::login_fault::LoginFault;
 use crate::options::Options;
+use crate::startup::{is_name, put_startup};
 use bytes::BytesMut;
 use client::ClientFault;
 use frames::{Back, DataRow, DataValue, Front, Query, write_front};
@@ -16,9 +18,6 @@ use std::alloc::{AllocError, Global};
 use std::io::{Read, Write};
 use std::random::RandomSource;
 use std::sync::Wait;
-
-/// The startup of a session for logical replication (PostgreSQL 15, 55.2.1 and 55.4): user `subcat`, replication `database`.
-const STARTUP: &[u8] = b"\0\0\0\x2a\0\x03\0\0user\0subcat\0replication\0database\0\0";
 
 /// The most bytes of a command's text. PostgreSQL has no memory for longer ones either.
 const MOST_TEXT_BYTES: usize = 1_073_741_823;
@@ -56,9 +55,20 @@ pub(crate) fn greet<R: Wait + RandomSource, S: Read + Write>(
     socket: &mut S,
     options: &Options<'_>,
 ) -> Result<(), FollowFault> {
-    socket.write_all(STARTUP).map_err(FollowFault::Connection)?;
+    say_startup(alloc, socket, options.user)?;
     authenticate(rt, alloc, incoming, socket, options.password)?;
     wait_for(rt, incoming, socket, End::ReadyForQuery)
+}
+
+fn say_startup<S: Write>(alloc: Global, socket: &mut S, user: &str) -> Result<(), FollowFault> {
+    if !is_name(user) {
+        return Err(FollowFault::Login(LoginFault::User));
+    }
+    let mut startup = BytesMut::new(alloc);
+    put_startup(alloc, &mut startup, user)?;
+    socket
+        .write_all(startup.as_slice())
+        .map_err(FollowFault::Connection)
 }
 
 /// Asks the server which system it is: the first value of the row that answers IDENTIFY_SYSTEM (PostgreSQL 15, 55.4).

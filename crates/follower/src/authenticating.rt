@@ -9,6 +9,7 @@ use bytes::BytesMut;
 use client::ClientFault;
 use frames::Back;
 use pqformat::Items;
+use saslprep::prepared;
 use scram::{ClientAnswer, ClientExchange, MECHANISM, base64_of};
 use std::alloc::Global;
 use std::io::{Read, Write};
@@ -34,7 +35,8 @@ pub(crate) fn authenticate<R: Wait + RandomSource, S: Read + Write>(
             if !is_offered(more.as_slice()) {
                 return Err(FollowFault::Login(LoginFault::Mechanism));
             }
-            prove(rt, alloc, incoming, socket, usable(password)?)
+            let password = prepared(alloc, given(password)?)?;
+            prove(rt, alloc, incoming, socket, password.as_slice())
         }
         other => Err(unserved(other)),
     }
@@ -161,19 +163,12 @@ fn is_offered(mechanisms: &[u8]) -> bool {
     mechanisms.split(|b| *b == 0).any(|name| name == wanted)
 }
 
-/// The password that is proved. An empty one is none, as it is to PostgreSQL's clients.
-fn usable(password: Option<&[u8]>) -> Result<&[u8], FollowFault> {
+/// The password that was given. An empty one is none, as it is to PostgreSQL's clients.
+fn given(password: Option<&[u8]>) -> Result<&[u8], FollowFault> {
     match password {
-        Some(password) if !is_ascii(password) => {
-            Err(FollowFault::Login(LoginFault::BeyondAscii))
-        }
         Some(password) if !password.is_empty() => Ok(password),
         _ => Err(FollowFault::Login(LoginFault::NoPassword)),
     }
-}
-
-fn is_ascii(password: &[u8]) -> bool {
-    password.iter().all(|b| b.is_ascii())
 }
 
 /// Why what is asked for isn't given.

@@ -5,8 +5,8 @@ ghost use Rattle.std.specs.Io.KnownBytes.{Appends};
 ghost use Rattle.follower.specs.Standing.{FailsToHand, Goes, HandsOver, standing, status_at};
 
 use crate::fault::FollowFault;
-use crate::form::Form;
 use crate::giving::give;
+use crate::options::Options;
 use crate::output::Output;
 use crate::printer::Printer;
 use crate::resume_point::ResumePoint;
@@ -16,7 +16,7 @@ use bytes::BytesMut;
 use client::ClientFault;
 use copyboth::ServerBody;
 use frames::{Back, Front, write_front};
-use pgoutput::{Logical, RELATION, Relation};
+use pgoutput::{COMMIT, Logical, MESSAGE, RELATION, Relation};
 use std::alloc::Global;
 use std::io;
 use std::io::Write;
@@ -38,7 +38,7 @@ impl Delivery {
     /// After a position, for so many transactions, into an output that holds so much already.
     pub(crate) fn new(
         alloc: Global,
-        form: Form,
+        options: &Options<'_>,
         kept: &ResumePoint,
         position: u64,
         count: u32,
@@ -46,7 +46,7 @@ impl Delivery {
         Delivery {
             alloc,
             receiver: StreamReceiver::new(alloc, position, count),
-            printer: Printer::new(alloc, form, kept),
+            printer: Printer::new(alloc, options.form, kept, options.send_times),
             is_broken: false,
             clock: 0,
         }
@@ -101,11 +101,28 @@ impl Delivery {
     {
         let data = carried(frame, taken)?;
         match body_in(&data)? {
-            ServerBody::XLogData(message) => return self.learn(message.payload, output),
+            ServerBody::XLogData(message) => {
+                self.note_sent(message.payload, message.clock)?;
+                return self.learn(message.payload, output);
+            }
             ServerBody::Keepalive(keepalive) if keepalive.ask => {
                 return self.acknowledge(false, socket, output);
             }
             ServerBody::Keepalive(_) => {}
+        }
+        Ok(())
+    }
+
+    /// Notes when a message was sent, if that is printed.
+    fn note_sent(&mut self, payload: &[u8], clock: i64) -> Result<(), FollowFault>
+        ensures { self.new ≡ record self.old { printer = self.new.printer } }
+    {
+        let is_timed = payload.first() == Some(&COMMIT) || payload.first() == Some(&MESSAGE);
+        if is_timed && self.printer.has_send_times() {
+            let message = message_in(self.alloc, payload)?;
+            let noted = self.printer.note_sent(&message, clock);
+            drop(message);
+            noted?;
         }
         Ok(())
     }

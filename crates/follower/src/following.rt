@@ -51,10 +51,10 @@ struct Following {
     transcript: Option<JsonTranscript>,
 }
 
-fn transcript_in(alloc: Global, form: Form) -> Option<JsonTranscript> {
-    match form {
+fn transcript_in(alloc: Global, options: &Options<'_>) -> Option<JsonTranscript> {
+    match options.form {
         Form::Text => None,
-        Form::Json => Some(JsonTranscript::new(alloc, &ResumePoint::new())),
+        Form::Json => Some(JsonTranscript::new(alloc, &ResumePoint::new(), options.send_times)),
     }
 }
 
@@ -65,7 +65,7 @@ impl Following {
             applier: Applier::new(alloc),
             left: options.count,
             clock: 0,
-            transcript: transcript_in(alloc, options.form),
+            transcript: transcript_in(alloc, options),
         }
     }
 
@@ -113,7 +113,9 @@ impl Following {
         let data = carried(frame, taken)?;
         match body_in(&data)? {
             ServerBody::XLogData(data) => {
-                if self.print(data.start, data.payload, output)? {
+                let message = message_in(self.alloc, data.payload)?;
+                self.note_sent(&message, data.clock)?;
+                if self.print(data.start, message, output)? {
                     self.left = self.left.saturating_sub(1);
                     self.acknowledge(rt, socket)?;
                 }
@@ -128,16 +130,6 @@ impl Following {
     fn print<W: Write>(
         &mut self,
         position: u64,
-        payload: &[u8],
-        output: &mut W,
-    ) -> Result<bool, FollowFault> {
-        let message = message_in(self.alloc, payload)?;
-        self.print_message(position, message, output)
-    }
-
-    fn print_message<W: Write>(
-        &mut self,
-        position: u64,
         message: Logical,
         output: &mut W,
     ) -> Result<bool, FollowFault> {
@@ -150,6 +142,13 @@ impl Following {
             output.flush().map_err(FollowFault::Output)?;
         }
         Ok(is_end)
+    }
+
+    fn note_sent(&mut self, message: &Logical, clock: i64) -> Result<(), AllocError> {
+        match &mut self.transcript {
+            Some(transcript) => transcript.note_sent(message, clock),
+            None => Ok(()),
+        }
     }
 
     /// The lines of a message, with their ends.

@@ -3,6 +3,7 @@
 use crate::fault::FollowFault;
 use crate::line_kind::LineKind;
 use crate::resume_point::ResumePoint;
+use crate::send_times::{SendTimes, push_sent};
 use crate::streamed::{begin_of, commit_of};
 use client::{Applied, ClientFault};
 use indexmap::IndexMap;
@@ -19,15 +20,38 @@ pub(crate) struct JsonTranscript {
     alloc: Global,
     tables: IndexMap<u32, Relation>,
     kept: ResumePoint,
+    /// Where they are printed.
+    send_times: Option<SendTimes>,
 }
 
 impl JsonTranscript {
     /// Of an output that holds so much already.
-    pub(crate) fn new(alloc: Global, kept: &ResumePoint) -> Self {
+    pub(crate) fn new(alloc: Global, kept: &ResumePoint, send_times: bool) -> Self {
         JsonTranscript {
             alloc,
             tables: IndexMap::new(alloc),
             kept: *kept,
+            send_times: if send_times {
+                Some(SendTimes::new(alloc))
+            } else {
+                None
+            },
+        }
+    }
+
+    /// Whether it prints when messages were sent.
+    pub(crate) fn has_send_times(&self) -> bool {
+        self.send_times.is_some()
+    }
+
+    /// The message was sent at this time of the server's clock.
+    pub(crate) fn note_sent(&mut self, message: &Logical, clock: i64) -> Result<(), AllocError> {
+        match (&mut self.send_times, message) {
+            (Some(times), Logical::Commit(commit)) => times.note(commit.end, clock),
+            (Some(times), Logical::Message(said)) if !said.is_transactional => {
+                times.note(said.position, clock)
+            }
+            _ => Ok(()),
         }
     }
 
@@ -128,17 +152,17 @@ impl JsonTranscript {
 
     fn add_commit(&mut self, commit: &Commit, lines: &mut Vec<u8>) -> Result<(), FollowFault> {
         let line = commit_line(self.alloc, commit)?;
-        Ok(self.push(line.as_slice(), LineKind::Commit(commit.end), lines)?)
+        let told = LineKind::Commit(commit.end);
+        Ok(self.push_timed(line.as_slice(), told, commit.end, lines)?)
     }
 
     fn add_said(&mut self, said: &Message, lines: &mut Vec<u8>) -> Result<(), FollowFault> {
         let line = message_line(self.alloc, said)?;
-        let told = if said.is_transactional {
-            LineKind::Message
-        } else {
-            LineKind::Note(said.position)
-        };
-        Ok(self.push(line.as_slice(), told, lines)?)
+        if said.is_transactional {
+            return Ok(self.push(line.as_slice(), LineKind::Message, lines)?);
+        }
+        let told = LineKind::Note(said.position);
+        Ok(self.push_timed(line.as_slice(), told, said.position, lines)?)
     }
 
     fn table(&self, oid: u32) -> Result<&Relation, FollowFault> {
@@ -146,6 +170,26 @@ impl JsonTranscript {
             Some(table) => Ok(table),
             None => Err(FollowFault::Client(ClientFault::UnknownRelation)),
         }
+    }
+
+    /// Adds a line, and when it was sent, if that is printed.
+    fn push_timed(
+        &mut self,
+        line: &[u8],
+        told: LineKind,
+        position: u64,
+        lines: &mut Vec<u8>,
+    ) -> Result<(), AllocError> {
+        let sent = match &mut self.send_times {
+            Some(times) => times.take(position),
+            None => None,
+        };
+        let Some(sent) = sent else {
+            return self.push(line, told, lines);
+        };
+        let mut timed = Vec::new(self.alloc);
+        push_sent(self.alloc, line, sent, &mut timed)?;
+        self.push(timed.as_slice(), told, lines)
     }
 
     /// Adds a line, which the output then holds.

@@ -32,6 +32,8 @@ mod resume_point;
 mod resuming;
 mod retrying;
 mod sasl_response;
+mod send_times;
+mod startup;
 mod stream_receiver;
 mod streamed;
 mod text_form;

@@ -7,11 +7,10 @@ use thiserror::Error;
 /// Why no proof of a password was given or taken.
 #[derive(Clone, Copy, Debug, PartialEq, Eq, Error)]
 pub enum LoginFault {
+    #[error("the user's name is empty, too long, or has a zero byte")]
+    User,
     #[error("the server asks for a password, and none was given")]
     NoPassword,
-    /// SASLprep (RFC 4013) would have to prepare them.
-    #[error("the password has bytes beyond ASCII")]
-    BeyondAscii,
     #[error("the server wants the password in clear text, which isn't sent")]
     Cleartext,
     #[error("the server wants the password by MD5, which isn't sent")]

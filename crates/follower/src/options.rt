@@ -19,6 +19,11 @@ pub struct Options<'a> {
     pub count: u32,
     /// How it is printed.
     pub form: Form,
+    /// Whether, in JSON, the line of each Commit and of each message outside of a transaction has a member `sent`: what the server's
+    /// clock said as it sent that, in microseconds since 2000-01-01.
+    pub send_times: bool,
+    /// Who connects: a name that isn't empty and has no zero byte. Its database has the same name.
+    pub user: &'a str,
     /// What is proved to a server that asks for a password.
     pub password: Option<&'a [u8]>,
 }

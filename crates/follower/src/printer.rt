@@ -18,10 +18,26 @@ pub(crate) enum Printer {
 
 impl Printer {
     /// For an output that holds so much already.
-    pub(crate) fn new(alloc: Global, form: Form, kept: &ResumePoint) -> Self {
+    pub(crate) fn new(alloc: Global, form: Form, kept: &ResumePoint, send_times: bool) -> Self {
         match form {
             Form::Text => Printer::Text(Transcript::new(alloc)),
-            Form::Json => Printer::Json(JsonTranscript::new(alloc, kept)),
+            Form::Json => Printer::Json(JsonTranscript::new(alloc, kept, send_times)),
+        }
+    }
+
+    /// Whether it prints when messages were sent.
+    pub(crate) fn has_send_times(&self) -> bool {
+        match self {
+            Printer::Text(_) => false,
+            Printer::Json(transcript) => transcript.has_send_times(),
+        }
+    }
+
+    /// The message was sent at this time of the server's clock.
+    pub(crate) fn note_sent(&mut self, message: &Logical, clock: i64) -> Result<(), AllocError> {
+        match self {
+            Printer::Text(_) => Ok(()),
+            Printer::Json(transcript) => transcript.note_sent(message, clock),
         }
     }
 

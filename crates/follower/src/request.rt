@@ -2,9 +2,9 @@
 
 ghost use Rattle.std.specs.Prelude.{◌≡◌, option_map};
 ghost use Rattle.frames.specs.Raw.{lent};
-ghost use Rattle.follower.specs.Requests.{framed_request, kind_of, request_limit, request_of};
+ghost use Rattle.follower.specs.Requests.{framed_request, kind_of, request_of};
 
-use frames::{AUTHENTICATION, Cursor, FrameFault};
+use frames::{AUTHENTICATION, Cursor, FrameFault, body_alone};
 
 /// The greatest length field of one that is read, as PostgreSQL's clients read none that is longer.
 pub(crate) const MOST_REQUEST_BYTES: u32 = 2_000;
@@ -43,33 +43,7 @@ pub(crate) struct Request<'a> {
 pub(crate) fn framed_request(bytes: &[u8]) -> Result<Option<(&[u8], usize)>, FrameFault>
     ensures { lent result ≡ framed_request bytes.now }
 {
-    let mut cursor = Cursor::new(bytes);
-    let Some(kind) = cursor.u8() else {
-        return Ok(None);
-    };
-    let limit = limit_of(kind).ok_or(FrameFault::UnknownType)?;
-    let Some(length) = cursor.u32() else {
-        return Ok(None);
-    };
-    if length < 4 {
-        return Err(FrameFault::BadLength);
-    }
-    if limit < length {
-        return Err(FrameFault::TooLong);
-    }
-    match cursor.take(length as usize - 4) {
-        Some(body) => Ok(Some((body, 1 + length as usize))),
-        None => Ok(None),
-    }
-}
-
-fn limit_of(kind: u8) -> Option<u32>
-    ensures { result ≡ request_limit kind }
-{
-    match kind {
-        AUTHENTICATION => Some(MOST_REQUEST_BYTES),
-        _ => None,
-    }
+    body_alone(bytes, AUTHENTICATION, MOST_REQUEST_BYTES)
 }
 
 /// What this body asks; None where it is too short to ask anything.

@@ -48,7 +48,7 @@ impl Subscription {
         let count = options.count.saturating_sub(kept.transactions);
         Subscription {
             alloc,
-            delivery: Delivery::new(alloc, options.form, &kept.cut(), position, count),
+            delivery: Delivery::new(alloc, options, &kept.cut(), position, count),
             system,
             is_created: false,
             is_asked: false,
@@ -194,7 +194,7 @@ impl Subscription {
         self.delivery.tell_time(clock);
     }
 
-    /// Takes the frame at the front, or waits for more of it.
+    /// Takes the frame at the front, or waits for more of it. Where nothing comes, the server is asked for a keepalive, once.
     fn take_next<S: Peer, W: Output>(
         &mut self,
         incoming: &mut Incoming,
@@ -217,22 +217,6 @@ impl Subscription {
             None => {}
         }
         self.delivery.settle(socket, output)?;
-        self.wait(incoming, socket, output)
-    }
-
-    /// Waits for more. Where nothing comes, the server is asked for a keepalive, once.
-    fn wait<S: Peer, W: Output>(
-        &mut self,
-        incoming: &mut Incoming,
-        socket: &mut S,
-        output: &mut W,
-    ) -> Result<(), FollowFault>
-        ensures goes { Goes
-            (standing self.old.delivery incoming.old.unread.items (W.contents output.old)
-            (W.kept output.old) (S.contents socket.old))
-            (standing self.new.delivery incoming.new.unread.items (W.contents output.new)
-            (W.kept output.new) (S.contents socket.new)) }
-    {
         match incoming.receive_more(socket) {
             Err(FollowFault::Silent) if !self.is_asked => {
                 self.is_asked = true;

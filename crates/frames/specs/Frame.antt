@@ -1,6 +1,6 @@
 -- What all regular frames have in common (PostgreSQL 15, 55.1.1 and 55.7): one type byte, a length of four bytes that
 -- counts itself and not the type byte, and the body. The length is read as an unsigned number.
-use Rattle.std.specs.Prelude.{◌≡◌, ℕ, ◌+◌, ◌-◌, ◌^◌, ◌<◌, ◌≤◌, List, [], ◌∷◌, ◌++◌, length, Option, Some, None, option_map, IsSomeAnd, Result, Ok, Err, nat_lt, Bool, false, true, if◌then◌else◌}
+use Rattle.std.specs.Prelude.{◌≡◌, ℕ, ◌+◌, ◌-◌, ◌^◌, ◌<◌, ◌≤◌, List, [], ◌∷◌, ◌++◌, ◌==◌, length, Option, Some, None, option_map, IsSomeAnd, Result, Ok, Err, nat_lt, Bool, false, true, if◌then◌else◌}
 use Rattle.std.specs.Option.{ok_or}
 use Rattle.std.specs.Int.{w32}
 use Rattle.pqformat.specs.Fields.{int32, bytes_at, number_at}
@@ -106,3 +106,12 @@ StandsAt {F} limit kind_of body_of Shaped is_text needs_memory BadBody bytes = H
 StandsAt {F} limit kind_of body_of Shaped is_text needs_memory NotUtf8 bytes = HoldsBody limit bytes (λ kind body. (f : F) × HasBody kind_of body_of Shaped kind body f × (is_text f ≡ false))
 StandsAt {F} limit kind_of body_of Shaped is_text needs_memory Memory bytes = HoldsBody limit bytes (λ kind body. (f : F) × HasBody kind_of body_of Shaped kind body f × (is_text f ≡ true) × (needs_memory f ≡ true))
 StandsAt limit kind_of body_of Shaped is_text needs_memory BadVersion bytes = ⊥
+
+-- ---- frames of one type byte alone
+
+abbrev pub limit_alone : ℕ → ℕ → ℕ → Option ℕ
+limit_alone kind most byte = if byte == kind then Some most else None
+
+-- the body of the frame of this type byte at the front, and how many bytes the whole takes; None while it isn't there whole
+abbrev pub body_alone : ℕ → ℕ → List ℕ → Result (Option (List ℕ × ℕ)) FrameFault
+body_alone kind most bytes = raw_at (limit_alone kind most) bytes >>= λ raw. Ok (option_map (λ r. (r.0.1, r.1)) raw)

@@ -48,9 +48,10 @@ pub enum Back {
 
 /// The frame at the front of the bytes, and how many of them it takes; None while it isn't there whole.
 ///
-/// A type byte that no frame has is F3 at once; a length under 4 is F1, and one over the limit of its frames F6, as
-/// soon as it is there; F4 and F5 are judged once the frame is there whole, and F7 is answered only where a frame stands
-/// that is right and needs memory.
+/// A type byte that no frame has is `UnknownType` (F3) at once; a length under 4 is `BadLength` (F1), and one over the limit of
+/// its frames `TooLong` (F6), as soon as it is there. Once the frame is there whole, a body that isn't one of its frame is
+/// `BadBody` (F4), a text that isn't UTF-8 `NotUtf8` (F5). `Memory` (F7) is answered only where a frame stands that is right
+/// and needs memory.
 pub fn read_back(alloc: Global, bytes: &[u8]) -> Result<Option<(Back, usize)>, FrameFault>
     // What is read stands at the front, spelled so.
     ensures found { IfOk result
@@ -164,7 +165,7 @@ fn list_of(alloc: Global, kind: u8, body: &[u8]) -> Result<Back, FrameFault>
     }
 }
 
-/// Adds the frame at the end of `out`; refused, adds nothing.
+/// Adds the frame at the end of `out`. `AllocError` where memory is refused; nothing is added then.
 pub fn write_back(message: &Back, out: &mut BytesMut) -> Result<(), AllocError>
     requires length { FitsLength (back_body message.now) }
     requires counts { HasCounts message.now }

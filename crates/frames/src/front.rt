@@ -32,9 +32,10 @@ pub enum Front {
 
 /// The frame at the front of the bytes, and how many of them it takes; None while it isn't there whole.
 ///
-/// A type byte that no frame has is F3 at once; a length under 4 is F1, and one over the limit of its frames F6, as
-/// soon as it is there; F4 and F5 are judged once the frame is there whole, and F7 is answered only where a frame stands
-/// that is right and needs memory.
+/// A type byte that no frame has is `UnknownType` (F3) at once; a length under 4 is `BadLength` (F1), and one over the limit of
+/// its frames `TooLong` (F6), as soon as it is there. Once the frame is there whole, a body that isn't one of its frame is
+/// `BadBody` (F4), a text that isn't UTF-8 `NotUtf8` (F5). `Memory` (F7) is answered only where a frame stands that is right
+/// and needs memory.
 pub fn read_front(alloc: Global, bytes: &[u8]) -> Result<Option<(Front, usize)>, FrameFault>
     // What is read stands at the front, spelled so.
     ensures found { IfOk result
@@ -111,7 +112,7 @@ fn whole_of(alloc: Global, kind: u8, body: &[u8]) -> Result<Front, FrameFault>
     }
 }
 
-/// Adds the frame at the end of `out`; refused, adds nothing.
+/// Adds the frame at the end of `out`. `AllocError` where memory is refused; nothing is added then.
 pub fn write_front(message: &Front, out: &mut BytesMut) -> Result<(), AllocError>
     requires { FitsLength (front_body message.now) }
     ensures ok { OnOk result

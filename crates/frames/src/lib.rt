@@ -9,6 +9,7 @@
 //! that cuts change nothing.
 #![tactic(auto)]
 
+mod alone;
 mod authentication_ok;
 mod back;
 mod backend_key_data;
@@ -33,6 +34,7 @@ mod row_description;
 mod startup;
 mod terminate;
 
+pub use alone::body_alone;
 pub use authentication_ok::AUTHENTICATION;
 pub use back::{Back, no_back_begins_another, read_back, write_back};
 pub use backend_key_data::{BACKEND_KEY_DATA, BackendKeyData};

@@ -45,9 +45,10 @@ pub enum Startup {
 
 /// The startup at the front of the bytes, and how many of them it takes; None while it isn't there whole.
 ///
-/// The length is judged first, as soon as it is there: under 8 is F1, over the limit F6. Then the number: an unknown one
-/// is F2, and a request of another length than its own F1. F4 and F5 are judged once it is there whole, and F7 is answered
-/// only where a session's startup stands that is right.
+/// The length is judged first, as soon as it is there: under 8 is `BadLength` (F1), over the limit `TooLong` (F6). Then the
+/// number: an unknown one is `BadVersion` (F2), and a request of another length than its own `BadLength`. Once it is there
+/// whole, parameters that don't end or that something follows are `BadBody` (F4), a text that isn't UTF-8 `NotUtf8` (F5).
+/// `Memory` (F7) is answered only where a session's startup stands that is right.
 pub fn read_startup(alloc: Global, bytes: &[u8]) -> Result<Option<(Startup, usize)>, FrameFault>
     // What is read stands at the front, spelled so.
     ensures found { IfOk result

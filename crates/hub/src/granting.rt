@@ -43,11 +43,12 @@ fn refusal_of<L: LogName + SlotName, R: Wait>(
     start: &HubStart<'_, L, R>,
     grant: &StreamGrant<L>,
 ) -> Option<BackendFault> {
-    let monitor = start.server_state.monitor_at(Some(grant.hold.place()))?;
     // It may be another one than before, of the same name.
-    if !monitor.is_open_to(start.rt, name_of(start.user)) {
+    let server_state = start.server_state;
+    if !server_state.is_open_to(start.rt, start.slot, name_of(start.user)) {
         return Some(BackendFault::NotOwner);
     }
+    let monitor = server_state.monitor_at(Some(grant.hold.place()))?;
     if monitor.is_lost(start.rt) {
         return Some(BackendFault::SlotLost);
     }

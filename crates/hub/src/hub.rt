@@ -64,7 +64,7 @@ impl<L: LogName + SlotName> Hub<L> {
     }
 
     /// A commit leaves its receipt: streams read on up to it, at least.
-    pub fn tell<R: Wait>(&self, rt: &R, receipt: Receipt<L>) -> Woken
+    pub fn tell<R: Wait + Clock>(&self, rt: &R, receipt: Receipt<L>) -> Woken
         ensures { IsWoken (vec_len self.now.server_state.latches) receipt.end result }
     {
         self.server_state.tell(rt, receipt)
@@ -72,7 +72,7 @@ impl<L: LogName + SlotName> Hub<L> {
 
     /// A note or an abort leaves where the log ended right after it, and no receipt: streams read on up to there, at least, so that
     /// their clients can confirm it.
-    pub fn tell_end<R: Wait>(&self, rt: &R, end: u64) -> Woken
+    pub fn tell_end<R: Wait + Clock>(&self, rt: &R, end: u64) -> Woken
         ensures { IsWoken (vec_len self.now.server_state.latches) end result }
     {
         self.server_state.tell_end(rt, end)
@@ -92,7 +92,12 @@ impl<L: LogName + SlotName> Hub<L> {
     /// order, and then nobody hears of it. Streams that ask for messages send it at once, whatever transactions do.
     ///
     /// It waits until no `Transaction` is in progress, so a thread that has one ends it first.
-    pub fn note<R: Wait>(&self, rt: &R, prefix: &str, content: &[u8]) -> Result<u64, SessionFault> {
+    pub fn note<R: Wait + Clock>(
+        &self,
+        rt: &R,
+        prefix: &str,
+        content: &[u8],
+    ) -> Result<u64, SessionFault> {
         self.server_state.note(rt, prefix, content)
     }
 

@@ -17,6 +17,7 @@ mod hub;
 mod new_stream;
 mod read_loop;
 mod refusals;
+mod server_host;
 mod serving;
 mod starting;
 mod stream_backend;
@@ -30,6 +31,7 @@ pub use connections::{
 };
 pub use hub::Hub;
 pub use server::Refusal;
+pub use server_host::ServerHost;
 pub use server_state::{
     EndFault, HubBuilder, HubFault, HubSettings, HubStatus, Savepoint, ServeFault, SlotStatus,
     SteerFault, Transaction, Woken,

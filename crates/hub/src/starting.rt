@@ -31,8 +31,7 @@ impl<'h, L: LogName + SlotName, R: Wait> HubStart<'h, L, R> {
     /// Why its user may not start this, if it may not: the slot is another one's, or a publication isn't granted.
     pub fn forbidden(&self) -> Option<BackendFault> {
         let server_state = self.server_state;
-        let place = server_state.place_of(self.rt, self.slot);
-        if !server_state.is_open_to(self.rt, place, name_of(self.user)) {
+        if !server_state.is_open_to(self.rt, self.slot, name_of(self.user)) {
             return Some(BackendFault::NotOwner);
         }
         let names = self.options.publications.as_slice();

@@ -47,7 +47,7 @@ impl<'h, L: LogName + SlotName, R: Wait + Clock, G: ServerObserver> WorkBackend<
 }
 
 /// Tells the monitor of a stream how far it is, and the observer where transactions in progress begin to fill its chunks.
-pub(crate) fn report<L: LogName + SlotName, R: Wait, G: ServerObserver>(
+pub(crate) fn report<L: LogName + SlotName, R: Wait + Clock, G: ServerObserver>(
     write: &WriteLoop<'_, L, R, G>,
     monitor: &SlotMonitor,
     stream: &Stream<L>,

@@ -15,8 +15,8 @@ use json::Writer;
 use pgoutput::{Delete, Insert, OldTuple, Relation, Update};
 use std::alloc::{AllocError, Global};
 
-/// The line of an Insert of this table, which `lsn` is told with. A row of another count of values than the table has columns is
-/// refused.
+/// The line of an Insert of this table, which `lsn` is told with. A row of another count of values than the table has columns
+/// is `Shape`. Or `Memory`.
 pub fn insert_line(
     alloc: Global,
     lsn: u64,
@@ -38,7 +38,8 @@ pub fn insert_line(
     Ok(closed(out)?)
 }
 
-/// The line of an Update, with what was sent of the old row.
+/// The line of an Update, with what was sent of the old row. A row of another count of values than the table has columns is
+/// `Shape`. Or `Memory`.
 #[tactic(auto, using(crate::proofs::Olds::old_put))]
 pub fn update_line(
     alloc: Global,
@@ -62,7 +63,7 @@ pub fn update_line(
     Ok(closed(out)?)
 }
 
-/// The line of a Delete.
+/// The line of a Delete. A row of another count of values than the table has columns is `Shape`. Or `Memory`.
 pub fn delete_line(
     alloc: Global,
     lsn: u64,
@@ -77,7 +78,7 @@ pub fn delete_line(
     Ok(closed(out)?)
 }
 
-/// The line of one table of a Truncate.
+/// The line of one table of a Truncate. `AllocError` where memory for it is refused.
 pub fn truncate_line(alloc: Global, lsn: u64, relation: &Relation) -> Result<Vec<u8>, AllocError>
     ensures { IfOk result (λ line. line.items ≡ line_of (truncate_json lsn relation.now)) }
 {

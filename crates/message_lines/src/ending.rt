@@ -10,6 +10,7 @@ use replcmd::parse_position;
 use std::alloc::{AllocError, Global};
 
 /// Where the log goes on after the transaction or the note that this line ends, without its line end; None of any other.
+/// `AllocError` where memory is refused.
 pub fn end_of(alloc: Global, line: &str) -> Result<Option<u64>, AllocError>
     ensures { IfOk result (λ end. end ≡ end_of line.now) }
 {
@@ -17,6 +18,7 @@ pub fn end_of(alloc: Global, line: &str) -> Result<Option<u64>, AllocError>
     match Value::parse(alloc, line, &mut scratch) {
         Ok(value) => Ok(end_in(&value)),
         Err(Error::Invalid) => Ok(None),
+        // `parse` answers neither of the last two.
         Err(Error::OutOfMemory | Error::TooLong | Error::DuplicateKey) => Err(AllocError),
     }
 }
@@ -69,7 +71,7 @@ fn position_of(text: &str) -> Option<u64>
     parse_position(text).ok()
 }
 
-/// A position within the record that starts here, but for the last one that there is.
+/// A position within the record that starts here; None at the last one that there is.
 pub fn behind(position: u64) -> Option<u64>
     ensures { result ≡ behind position }
 {

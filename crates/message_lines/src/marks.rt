@@ -14,6 +14,7 @@ use pgoutput::{Begin, Commit, Message};
 use std::alloc::{AllocError, Global};
 use std::str;
 
+/// The line of a Begin; `AllocError` where memory for it is refused.
 pub fn begin_line(alloc: Global, message: &Begin) -> Result<Vec<u8>, AllocError>
     ensures { IfOk result (λ line. line.items ≡ line_of (begin_json message.now)) }
 {
@@ -24,6 +25,7 @@ pub fn begin_line(alloc: Global, message: &Begin) -> Result<Vec<u8>, AllocError>
     closed(out)
 }
 
+/// The line of a Commit; `AllocError` where memory for it is refused.
 pub fn commit_line(alloc: Global, message: &Commit) -> Result<Vec<u8>, AllocError>
     ensures { IfOk result (λ line. line.items ≡ line_of (commit_json message.now)) }
 {
@@ -34,7 +36,8 @@ pub fn commit_line(alloc: Global, message: &Commit) -> Result<Vec<u8>, AllocErro
     closed(out)
 }
 
-/// The line of a Message. Where its content is no text, that stands there in hexadecimal.
+/// The line of a Message. Where its content is no text, that stands there in hexadecimal. `AllocError` where memory for it is
+/// refused.
 pub fn message_line(alloc: Global, message: &Message) -> Result<Vec<u8>, AllocError>
     ensures { IfOk result (λ line. line.items ≡ line_of (message_json message.now)) }
 {
@@ -64,6 +67,7 @@ fn put_content(alloc: Global, out: &mut Writer, content: &[u8]) -> Result<(), Al
 }
 
 /// The line after all others: how many transactions and changes they tell, and the position where a follower goes on.
+/// `AllocError` where memory for it is refused.
 pub fn summary_line(
     alloc: Global,
     transactions: u32,

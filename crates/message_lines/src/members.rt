@@ -77,7 +77,7 @@ pub(crate) fn put_truth(out: &mut Writer, name: &str, truth: bool) -> Result<(),
     Ok(())
 }
 
-/// A position of the log, as PostgreSQL prints it.
+/// A position of the log, as PostgreSQL prints it (PostgreSQL 15, 8.20).
 pub(crate) fn put_position(
     alloc: Global,
     out: &mut Writer,

@@ -28,6 +28,8 @@ use std::alloc::{AllocError, Global};
 /// backslash is doubled, and a control character (below 32, and 127) is `\x` and two hexadecimal digits. Positions are as
 /// `16/B374D848`, the identity is `d`, `n`, `f` or `i`, and the options are the sum of 1 for CASCADE and 2 for RESTART IDENTITY. The flags of a Message are 1 in a
 /// transaction, else 0; its prefix is a text in single quotes, its content in hexadecimal.
+///
+/// `AllocError` where memory for it is refused.
 pub fn render(alloc: Global, message: &Logical) -> Result<String, AllocError>
     ensures { IfOk result (λ line. IsTextOf message.now (string_bytes line)) }
 {

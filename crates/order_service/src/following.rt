@@ -1,12 +1,12 @@
 //! Two followers, each with a slot of its own.
 
 use follower::{FollowFault, Form, Options, follow};
+use hub::ServerHost;
 use std::alloc::Global;
 use std::net::{Net, SocketAddr, TcpListener, TcpStream};
 use std::random::RandomSource;
 use std::sync::Wait;
 use std::thread;
-use std::thread::Threads;
 use std::time::Clock;
 
 /// Follows all tables and messages, through the four transactions and the note that the service commits.
@@ -18,6 +18,8 @@ const ALL: Options<'static> = Options {
     messages: true,
     count: 5,
     form: Form::Text,
+    send_times: false,
+    user: "warehouse",
     password: None,
 };
 
@@ -30,6 +32,8 @@ const LARGE: Options<'static> = Options {
     messages: false,
     count: 2,
     form: Form::Text,
+    send_times: false,
+    user: "sales",
     password: None,
 };
 
@@ -43,12 +47,7 @@ pub struct Followed {
 /// Both followers, side by side.
 pub fn follow_both<R>(rt: &R, alloc: Global, address: SocketAddr) -> Result<Followed, FollowFault>
 where
-    R: Net<Listener = TcpListener, Stream = TcpStream>
-        + Threads
-        + Wait
-        + Clock
-        + RandomSource
-        + Sync,
+    R: ServerHost,
 {
     let (all, large) = thread::join(
         rt,

@@ -12,6 +12,7 @@ use shared_log::LogName;
 use slots::SlotName;
 use std::alloc::Global;
 use std::sync::Wait;
+use std::time::Clock;
 use tables::Row;
 
 /// Fills the stock and takes all orders, once both followers have their streams: what is committed before reaches nobody. Of an
@@ -19,7 +20,7 @@ use tables::Row;
 pub fn take_orders<L, R>(rt: &R, alloc: Global, hub: &Hub<L>) -> Result<(), OrderFault>
 where
     L: LogName + SlotName,
-    R: Wait,
+    R: Wait + Clock,
 {
     hub.await_streams(rt, u64::from(FOLLOWERS));
     fill_stock(rt, alloc, hub)?;
@@ -38,7 +39,7 @@ where
 fn fill_stock<L, R>(rt: &R, alloc: Global, hub: &Hub<L>) -> Result<(), OrderFault>
 where
     L: LogName + SlotName,
-    R: Wait,
+    R: Wait + Clock,
 {
     let mut tx = hub.transaction(rt)?;
     let filled = insert_stock(alloc, &mut tx);
@@ -48,7 +49,7 @@ where
 fn take_order<L, R>(rt: &R, alloc: Global, hub: &Hub<L>, order: &Order) -> Result<(), OrderFault>
 where
     L: LogName + SlotName,
-    R: Wait,
+    R: Wait + Clock,
 {
     let mut tx = hub.transaction(rt)?;
     let placed = place(alloc, &mut tx, order);

@@ -8,7 +8,7 @@ use crate::ordering::take_orders;
 use crate::shop::CONFIGURATION;
 use anyhow::Result;
 use catalog::Catalog;
-use hub::{Hub, HubBuilder, NoopObserver, serve};
+use hub::{Hub, HubBuilder, NoopObserver, ServerHost, serve};
 use pqformat::Text;
 use publication::Publications;
 use shared_log::LogName;
@@ -60,12 +60,7 @@ fn opened(alloc: Global) -> Result<HubBuilder> {
 fn served<L, R>(rt: &R, alloc: Global, opened: HubBuilder) -> Result<Followed>
 where
     L: LogName + SlotName + Send + Sync,
-    R: Net<Listener = TcpListener, Stream = TcpStream>
-        + Threads
-        + Wait
-        + Clock
-        + RandomSource
-        + Sync,
+    R: ServerHost,
     requires log { opened.log.history.seen.book ≡ L.book }
     requires slots { opened.slots.first.table_id ≡ L.table }
 {
@@ -79,12 +74,7 @@ where
 fn serve_both<L, R>(rt: &R, alloc: Global, hub: &Hub<L>) -> Result<Followed>
 where
     L: LogName + SlotName + Send + Sync,
-    R: Net<Listener = TcpListener, Stream = TcpStream>
-        + Threads
-        + Wait
-        + Clock
-        + RandomSource
-        + Sync,
+    R: ServerHost,
 {
     let listener = TcpListener::bind(rt, "127.0.0.1:0")?;
     let address = listener.local_addr()?;
@@ -107,12 +97,7 @@ fn order_and_follow<L, R>(
 ) -> Result<Followed>
 where
     L: LogName + SlotName + Send + Sync,
-    R: Net<Listener = TcpListener, Stream = TcpStream>
-        + Threads
-        + Wait
-        + Clock
-        + RandomSource
-        + Sync,
+    R: ServerHost,
 {
     let (followed, taken) = thread::join(
         rt,

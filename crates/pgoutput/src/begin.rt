@@ -29,7 +29,7 @@ pub struct Begin {
     pub xid: u32,
 }
 
-/// The fields of Begin, which stand after its kind byte, or the fault at which they stop.
+/// The fields of Begin, which stand after its kind byte; or `Short` (O1), where they aren't there whole.
 #[tactic(auto, unfolding(crate::specs::Begin::begin_at))]
 pub fn begin_of(cursor: &mut Cursor<'_>) -> Result<Begin, PgoutputError>
     ensures exact { Gives result cursor.new (begin_at cursor.old) }
@@ -42,7 +42,7 @@ pub fn begin_of(cursor: &mut Cursor<'_>) -> Result<Begin, PgoutputError>
     })
 }
 
-/// Adds the fields of Begin, after its kind byte. Where memory is refused, some of them may have been added.
+/// Adds the fields of Begin, after its kind byte. `AllocError` where memory is refused; some of them may have been added then.
 #[tactic(auto, using(pqformat::proofs::Putting::in_place))]
 pub fn put_begin(out: &mut BytesMut, message: &Begin) -> Result<(), AllocError>
     ensures { Puts result out.old.items out.new.items (begin message.now) }

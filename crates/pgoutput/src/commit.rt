@@ -32,7 +32,8 @@ pub struct Commit {
     pub time: i64,
 }
 
-/// The fields of Commit, which stand after its kind byte, or the fault at which they stop.
+/// The fields of Commit, which stand after its kind byte; or the leftmost fault: `Short` (O1) where they aren't there whole,
+/// `BadMark` (O3) at flags that aren't 0.
 #[tactic(auto, unfolding(crate::specs::Commit::commit_at))]
 pub fn commit_of(cursor: &mut Cursor<'_>) -> Result<Commit, PgoutputError>
     ensures exact { Gives result cursor.new (commit_at cursor.old) }
@@ -46,7 +47,7 @@ pub fn commit_of(cursor: &mut Cursor<'_>) -> Result<Commit, PgoutputError>
     })
 }
 
-/// Adds the fields of Commit, after its kind byte. Where memory is refused, some of them may have been added.
+/// Adds the fields of Commit, after its kind byte. `AllocError` where memory is refused; some of them may have been added then.
 #[tactic(auto, using(pqformat::proofs::Putting::in_place))]
 pub fn put_commit(out: &mut BytesMut, message: &Commit) -> Result<(), AllocError>
     ensures { Puts result out.old.items out.new.items (commit message.now) }

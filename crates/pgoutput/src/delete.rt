@@ -27,7 +27,9 @@ pub struct Delete {
     pub old: OldTuple,
 }
 
-/// The fields of Delete, which stand after its kind byte, or the fault at which they stop.
+/// The fields of Delete, which stand after its kind byte; or the leftmost fault: `Short` (O1) where they aren't there whole,
+/// `BadMark` (O3) at a letter, count or length that is none of its field, `BadText` (O4) at a text that isn't UTF-8. Or
+/// `Memory` (O6).
 #[tactic(auto, unfolding(crate::specs::Delete::delete_at))]
 pub fn delete_of(alloc: Global, cursor: &mut Cursor<'_>) -> Result<Delete, PgoutputError>
     ensures { Gives result cursor.new (delete_at cursor.old) }
@@ -37,7 +39,7 @@ pub fn delete_of(alloc: Global, cursor: &mut Cursor<'_>) -> Result<Delete, Pgout
     Ok(Delete { oid, old })
 }
 
-/// Adds the fields of Delete, after its kind byte. Where memory is refused, some of them may have been added.
+/// Adds the fields of Delete, after its kind byte. `AllocError` where memory is refused; some of them may have been added then.
 #[tactic(auto, using(pqformat::proofs::Putting::in_place))]
 pub fn put_delete(out: &mut BytesMut, message: &Delete) -> Result<(), AllocError>
     requires { IsShortDelete message.now }

@@ -31,7 +31,9 @@ pub struct Insert {
     pub new: Items<Cell>,
 }
 
-/// The fields of Insert, which stand after its kind byte, or the fault at which they stop.
+/// The fields of Insert, which stand after its kind byte; or the leftmost fault: `Short` (O1) where they aren't there whole,
+/// `BadMark` (O3) at a letter, count or length that is none of its field, as at a cell that is unchanged, `BadText` (O4) at a
+/// text that isn't UTF-8. Or `Memory` (O6).
 #[tactic(auto, unfolding(crate::specs::Insert::insert_at))]
 pub fn insert_of(alloc: Global, cursor: &mut Cursor<'_>) -> Result<Insert, PgoutputError>
     ensures { Gives result cursor.new (insert_at cursor.old) }
@@ -42,7 +44,7 @@ pub fn insert_of(alloc: Global, cursor: &mut Cursor<'_>) -> Result<Insert, Pgout
     Ok(Insert { oid, new })
 }
 
-/// Adds the fields of Insert, after its kind byte. Where memory is refused, some of them may have been added.
+/// Adds the fields of Insert, after its kind byte. `AllocError` where memory is refused; some of them may have been added then.
 #[tactic(auto, using(pqformat::proofs::Putting::in_place))]
 pub fn put_insert(out: &mut BytesMut, message: &Insert) -> Result<(), AllocError>
     requires { IsShortInsert message.now }

@@ -37,9 +37,9 @@ pub enum Logical {
 
 /// The message that the bytes spell, all of them.
 ///
-/// The leftmost fault is answered: O1 where the bytes end inside a field, O2 where no message has the first byte, O3 at
-/// a letter, flag, count or length that is none of its field, O4 at a text that isn't UTF-8, O5 at bytes after the
-/// message; or O6, out of memory.
+/// The leftmost fault is answered: `Short` (O1) where the bytes end inside a field, `UnknownKind` (O2) where no message has the
+/// first byte, `BadMark` (O3) at a letter, flag, count or length that is none of its field, `BadText` (O4) at a text that isn't
+/// UTF-8, `Trailing` (O5) at bytes after the message; or `Memory` (O6), where memory for what comes before it is refused.
 pub fn read_logical(alloc: Global, bytes: &[u8]) -> Result<Logical, PgoutputError>
     // What is read is spelled so.
     ensures found { IfOk result (λ m. SpellsLogical bytes.now m) }
@@ -77,6 +77,7 @@ fn whole(alloc: Global, bytes: &[u8]) -> Result<Logical, PgoutputError>
     if cursor.rest().is_empty() {
         return Ok(message);
     }
+    // Let go by one call, which keeps the proof short.
     drop(message);
     Err(PgoutputError::Trailing)
 }
@@ -115,7 +116,7 @@ fn fields_of(alloc: Global, kind: u8, cursor: &mut Cursor<'_>) -> Result<Logical
     }
 }
 
-/// Adds the message at the end of `out`; refused, adds nothing.
+/// Adds the message at the end of `out`. `AllocError` where memory is refused; nothing is added then.
 pub fn write_logical(message: &Logical, out: &mut BytesMut) -> Result<(), AllocError>
     requires { IsShort message.now }
     ensures ok { OnOk result (out.new.items ≡ out.old.items ++ spell_logical message.now) }

@@ -36,7 +36,9 @@ pub struct Message {
     pub content: Items<u8>,
 }
 
-/// The fields of Message, which stand after its kind byte, or the fault at which they stop.
+/// The fields of Message, which stand after its kind byte; or the leftmost fault: `Short` (O1) where they aren't there whole,
+/// `BadMark` (O3) at flags that are neither 0 nor 1, or at a length with its top bit set, `BadText` (O4) at a prefix that isn't
+/// UTF-8. Or `Memory` (O6).
 #[tactic(auto, unfolding(crate::specs::Message::message_at))]
 pub fn message_of(alloc: Global, cursor: &mut Cursor<'_>) -> Result<Message, PgoutputError>
     ensures { Gives result cursor.new (message_at cursor.old) }
@@ -63,7 +65,8 @@ fn content_of(alloc: Global, cursor: &mut Cursor<'_>) -> Result<Items<u8>, Pgout
     Ok(Items::new(Vec::from_slice(alloc, bytes)?))
 }
 
-/// Adds the fields of Message, after its kind byte. Where memory is refused, some of them may have been added.
+/// Adds the fields of Message, after its kind byte. `AllocError` where memory is refused; some of them may have been added
+/// then.
 #[tactic(auto, using(pqformat::proofs::Putting::in_place))]
 pub fn put_message(out: &mut BytesMut, told: &Message) -> Result<(), AllocError>
     requires { HasShortContent told.now }

@@ -67,7 +67,8 @@ pub struct Column {
     pub modifier: i32,
 }
 
-/// The fields of Relation, which stand after its kind byte, or the fault at which they stop.
+/// The fields of Relation, which stand after its kind byte; or the leftmost fault: `Short` (O1) where they aren't there whole,
+/// `BadMark` (O3) at an identity, a flag or a count that is none, `BadText` (O4) at a name that isn't UTF-8. Or `Memory` (O6).
 #[tactic(auto, unfolding(crate::specs::Relation::relation_at))]
 pub fn relation_of(alloc: Global, cursor: &mut Cursor<'_>) -> Result<Relation, PgoutputError>
     ensures { Gives result cursor.new (relation_at cursor.old) }
@@ -126,7 +127,8 @@ fn column_of(alloc: Global, cursor: &mut Cursor<'_>) -> Result<Column, PgoutputE
     })
 }
 
-/// Adds the fields of Relation, after its kind byte. Where memory is refused, some of them may have been added.
+/// Adds the fields of Relation, after its kind byte. `AllocError` where memory is refused; some of them may have been added
+/// then.
 #[tactic(auto, using(pqformat::proofs::Putting::in_place))]
 pub fn put_relation(out: &mut BytesMut, message: &Relation) -> Result<(), AllocError>
     requires { IsShortRelation message.now }

@@ -9,7 +9,7 @@ use crate::logical::{Logical, read_logical, write_logical};
 use bytes::BytesMut;
 use std::alloc::Global;
 
-/// The message again, by its spelling alone; or O6, out of memory.
+/// The message again, by its spelling alone; or `Memory` (O6), and no other fault.
 pub fn written_and_read(alloc: Global, message: &Logical) -> Result<Logical, PgoutputError>
     requires range { FitsLogical message.now }
     requires short { IsShort message.now }

@@ -46,7 +46,8 @@ pub struct TruncateOptions {
     pub restart_identity: bool,
 }
 
-/// The fields of Truncate, which stand after its kind byte, or the fault at which they stop.
+/// The fields of Truncate, which stand after its kind byte; or the leftmost fault: `Short` (O1) where they aren't there whole,
+/// `BadMark` (O3) at a count with its top bit set, or at options that aren't 0 to 3. Or `Memory` (O6).
 #[tactic(auto, unfolding(crate::specs::Truncate::truncate_at))]
 pub fn truncate_of(alloc: Global, cursor: &mut Cursor<'_>) -> Result<Truncate, PgoutputError>
     ensures { Gives result cursor.new (truncate_at cursor.old) }
@@ -88,7 +89,8 @@ fn letter_of(options: TruncateOptions) -> u8
     }
 }
 
-/// Adds the fields of Truncate, after its kind byte. Where memory is refused, some of them may have been added.
+/// Adds the fields of Truncate, after its kind byte. `AllocError` where memory is refused; some of them may have been added
+/// then.
 #[tactic(auto, using(pqformat::proofs::Putting::in_place))]
 pub fn put_truncate(out: &mut BytesMut, message: &Truncate) -> Result<(), AllocError>
     requires { IsShortTruncate message.now }

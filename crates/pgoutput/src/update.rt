@@ -33,7 +33,9 @@ pub struct Update {
     pub new: Items<Cell>,
 }
 
-/// The fields of Update, which stand after its kind byte, or the fault at which they stop.
+/// The fields of Update, which stand after its kind byte; or the leftmost fault: `Short` (O1) where they aren't there whole,
+/// `BadMark` (O3) at a letter, count or length that is none of its field, `BadText` (O4) at a text that isn't UTF-8. Or
+/// `Memory` (O6).
 #[tactic(auto, unfolding(crate::specs::Update::update_at))]
 pub fn update_of(alloc: Global, cursor: &mut Cursor<'_>) -> Result<Update, PgoutputError>
     ensures { Gives result cursor.new (update_at cursor.old) }
@@ -79,7 +81,7 @@ fn tuples_of(
     Ok((old, new))
 }
 
-/// Adds the fields of Update, after its kind byte. Where memory is refused, some of them may have been added.
+/// Adds the fields of Update, after its kind byte. `AllocError` where memory is refused; some of them may have been added then.
 #[tactic(auto, using(pqformat::proofs::Putting::in_place))]
 pub fn put_update(out: &mut BytesMut, message: &Update) -> Result<(), AllocError>
     requires { IsShortUpdate message.now }

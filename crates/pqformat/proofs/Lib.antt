@@ -5,3 +5,4 @@ pub mod Putting
 pub mod Texts
 pub mod Writing
 pub mod Quoting
+mod Digits

@@ -33,6 +33,7 @@ impl<'a> Cursor<'a> {
         Cursor { bytes }
     }
 
+    /// The next byte; None where nothing is left.
     pub fn u8(&mut self) -> Option<u8>
         ensures { Moves (λ n. n) result self.old self.new (byte_at self.old) }
     {
@@ -41,6 +42,7 @@ impl<'a> Cursor<'a> {
         Some(*first)
     }
 
+    /// The next two bytes as a number, the highest first; None where fewer are left.
     pub fn u16(&mut self) -> Option<u16>
         ensures { Moves (λ n. n) result self.old self.new (number_at w16 self.old) }
     {
@@ -49,6 +51,7 @@ impl<'a> Cursor<'a> {
         Some(u16::from_be_bytes(*front))
     }
 
+    /// The next four bytes as a number, the highest first; None where fewer are left.
     pub fn u32(&mut self) -> Option<u32>
         ensures { Moves (λ n. n) result self.old self.new (number_at w32 self.old) }
     {
@@ -57,6 +60,7 @@ impl<'a> Cursor<'a> {
         Some(u32::from_be_bytes(*front))
     }
 
+    /// The next eight bytes as a number, the highest first; None where fewer are left.
     pub fn u64(&mut self) -> Option<u64>
         ensures { Moves (λ n. n) result self.old self.new (number_at w64 self.old) }
     {
@@ -65,7 +69,8 @@ impl<'a> Cursor<'a> {
         Some(u64::from_be_bytes(*front))
     }
 
-    /// The bytes before the next zero byte; moves past that byte too.
+    /// The bytes before the next zero byte; moves past that byte too. None where no zero byte is left. It is a String of
+    /// messages (PostgreSQL 15, 55.6 Message Data Types).
     pub fn cstr(&mut self) -> Option<&'a [u8]>
         ensures { Moves (λ s. s.now) result self.old self.new (string_at self.old) }
     {
@@ -76,7 +81,7 @@ impl<'a> Cursor<'a> {
         Some(front)
     }
 
-    /// The next `n` bytes.
+    /// The next `n` bytes; None where fewer are left.
     pub fn take(&mut self, n: usize) -> Option<&'a [u8]>
         ensures { Moves (λ s. s.now) result self.old self.new (bytes_at n self.old) }
     {
@@ -100,7 +105,7 @@ fn zero_place(bytes: &[u8]) -> Option<usize>
     bytes.iter().position(|&b| b == 0)
 }
 
-/// The bytes as text, if they are UTF-8.
+/// The bytes as text; None where they aren't UTF-8.
 #[tactic(auto, using(crate::proofs::Texts::valid_text, crate::proofs::Texts::invalid_text))]
 pub fn utf8_of(bytes: &[u8]) -> Option<&str>
     ensures { MatchOption result (is_utf8 bytes.now ≡ false)

@@ -7,7 +7,7 @@ ghost use Rattle.pqformat.specs.Fields.{int16, int32, int64, string};
 use bytes::{BufMut, BytesMut};
 use std::alloc::AllocError;
 
-/// Adds a byte.
+/// Adds a byte. `AllocError` where memory is refused; nothing is added then.
 pub fn put_byte(out: &mut BytesMut, byte: u8) -> Result<(), AllocError>
     ensures ok { OnOk result (out.new.items ≡ out.old.items ++ byte ∷ []) }
     ensures err { OnErr result (out.new.items ≡ out.old.items) }
@@ -15,7 +15,7 @@ pub fn put_byte(out: &mut BytesMut, byte: u8) -> Result<(), AllocError>
     out.put_u8(byte)
 }
 
-/// Adds two bytes, the highest first.
+/// Adds two bytes, the highest first. `AllocError` where memory is refused; nothing is added then.
 #[tactic(auto, unfolding(crate::specs::Fields::int16))]
 pub fn put_int16(out: &mut BytesMut, number: u16) -> Result<(), AllocError>
     ensures ok { OnOk result (out.new.items ≡ out.old.items ++ int16 number) }
@@ -24,7 +24,7 @@ pub fn put_int16(out: &mut BytesMut, number: u16) -> Result<(), AllocError>
     out.put_u16(number)
 }
 
-/// Adds four bytes, the highest first.
+/// Adds four bytes, the highest first. `AllocError` where memory is refused; nothing is added then.
 #[tactic(auto, unfolding(crate::specs::Fields::int32))]
 pub fn put_int32(out: &mut BytesMut, number: u32) -> Result<(), AllocError>
     ensures ok { OnOk result (out.new.items ≡ out.old.items ++ int32 number) }
@@ -33,7 +33,7 @@ pub fn put_int32(out: &mut BytesMut, number: u32) -> Result<(), AllocError>
     out.put_u32(number)
 }
 
-/// Adds eight bytes, the highest first.
+/// Adds eight bytes, the highest first. `AllocError` where memory is refused; nothing is added then.
 #[tactic(auto, unfolding(crate::specs::Fields::int64))]
 pub fn put_int64(out: &mut BytesMut, number: u64) -> Result<(), AllocError>
     ensures ok { OnOk result (out.new.items ≡ out.old.items ++ int64 number) }
@@ -42,7 +42,7 @@ pub fn put_int64(out: &mut BytesMut, number: u64) -> Result<(), AllocError>
     out.put_u64(number)
 }
 
-/// Adds the bytes as they are.
+/// Adds the bytes as they are. `AllocError` where memory is refused; nothing is added then.
 pub fn put_bytes(out: &mut BytesMut, bytes: &[u8]) -> Result<(), AllocError>
     ensures ok { OnOk result (out.new.items ≡ out.old.items ++ bytes.now) }
     ensures err { OnErr result (out.new.items ≡ out.old.items) }
@@ -50,7 +50,7 @@ pub fn put_bytes(out: &mut BytesMut, bytes: &[u8]) -> Result<(), AllocError>
     out.put_slice(bytes)
 }
 
-/// Adds the text and a zero byte, both or neither.
+/// Adds the text and a zero byte, both or neither. `AllocError` where memory is refused.
 #[tactic(auto, using(crate::proofs::Putting::extends_more))]
 pub fn put_string(out: &mut BytesMut, text: &str) -> Result<(), AllocError>
     ensures ok { OnOk result (out.new.items ≡ out.old.items ++ string text.now) }

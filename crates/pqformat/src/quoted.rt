@@ -20,6 +20,7 @@ fn goes_on(quote: u8, b: u8, tail: &[u8]) -> Option<&[u8]>
 }
 
 /// The bytes that are meant, up to the quote that closes them, and what follows that; None where no quote closes them.
+/// `AllocError` where memory for them is refused.
 pub fn quoted_bytes(
     alloc: Global,
     quote: u8,

@@ -29,6 +29,7 @@ impl Text {
         Text { string }
     }
 
+    /// A copy of the text; `AllocError` where memory for it is refused.
     pub fn copy_of(alloc: Global, text: &str) -> Result<Self, AllocError>
         ensures { IfOk result (λ t. t ≡ text.now) }
     {
@@ -37,6 +38,7 @@ impl Text {
         })
     }
 
+    /// A copy; `AllocError` where memory for it is refused.
     pub fn copy(&self, alloc: Global) -> Result<Self, AllocError>
         ensures { IfOk result (λ t. t ≡ self.now) }
     {

@@ -10,7 +10,7 @@ use std::alloc::{AllocError, Global};
 use std::net::{Shutdown, SocketAddr, TcpListener, TcpStream};
 use std::os::fd::OwnedFd;
 use std::sync::atomic::{AtomicBool, Ordering};
-use std::sync::{Arc, Mutex, Wait};
+use std::sync::{Arc, Wait};
 use std::time::{Clock, Duration};
 use std::{io, thread};
 
@@ -50,6 +50,8 @@ impl ListenerHandle {
 /// The listeners of the server: for connections, for who asks what runs, if there is one, for lines, and for a signal.
 #[derive(Drop)]
 pub struct ListenerHandles {
+    /// What polls the sockets of who asks: a thread is given nothing that only promises to have sockets.
+    pub host: HostRuntime,
     pub connections: ListenerHandle,
     pub status: Option<ListenerHandle>,
     pub input: Arc<InputLines, Global>,
@@ -58,8 +60,6 @@ pub struct ListenerHandles {
     pub passwords: Option<UserFile>,
     /// Nobody is told any more what runs.
     is_status_over: AtomicBool,
-    /// The socket of who is being told what runs.
-    asking: Mutex<Option<TcpStream>>,
     /// All connections have ended, and no more come.
     are_connections_over: AtomicBool,
 }
@@ -67,46 +67,36 @@ pub struct ListenerHandles {
 impl ListenerHandles {
     /// The listeners at which these threads wait.
     pub fn of(
-        alloc: Global,
+        host: &HostRuntime,
         connections: &TcpListener,
         status: Option<&TcpListener>,
         passwords: Option<UserFile>,
     ) -> io::Result<Self> {
         let status = ListenerHandle::of_any(status)?;
-        let input = input_of(alloc)?;
-        let termination = Termination::new(alloc)?;
+        let input = input_of(host.alloc())?;
+        let termination = Termination::new(host.alloc())?;
         Ok(ListenerHandles {
+            host: *host,
             connections: ListenerHandle::of(connections)?,
             status,
             input,
             termination,
             passwords,
             is_status_over: AtomicBool::new(false),
-            asking: Mutex::new(None),
             are_connections_over: AtomicBool::new(false),
         })
     }
 
     /// Ends the page that tells what runs, also where it is being told.
-    pub fn close_status<R: Wait>(&self, rt: &R) {
+    pub fn close_status(&self) {
         self.is_status_over.store(true, Ordering::SeqCst);
         if let Some(listener) = &self.status {
             listener.shut();
-        }
-        if let Some(socket) = &*self.asking.lock(rt) {
-            let _ = socket.shutdown(Shutdown::Both);
         }
     }
 
     pub fn is_status_over(&self) -> bool {
         self.is_status_over.load(Ordering::SeqCst)
-    }
-
-    /// Who asks what runs has this socket, or nobody asks any more.
-    pub fn set_asking<R: Wait>(&self, rt: &R, socket: Option<TcpStream>) {
-        let mut asking = self.asking.lock(rt);
-        *asking = socket;
-        drop(asking);
     }
 
     /// All connections have ended, and no more come.

@@ -8,6 +8,7 @@
 //! `schedule::Sessions::line`; of sockets and threads, runs tell.
 #![tactic(auto)]
 
+mod asker;
 mod command;
 mod command_fault;
 mod descriptors;
@@ -24,6 +25,7 @@ mod scripting;
 mod scripts;
 mod sizes;
 mod status_page;
+mod status_service;
 mod status_text;
 mod talk;
 mod telling;
@@ -199,7 +201,7 @@ where
         + 'static,
 {
     let passwords = UserFile::asked(rt, asked.passwords)?;
-    let listeners = ListenerHandles::of(rt.alloc(), listener, page, passwords);
+    let listeners = ListenerHandles::of(rt, listener, page, passwords);
     let listeners = listeners.map_err(Fault::Listen)?;
     let service = Service {
         listener,
@@ -430,7 +432,7 @@ where
             return give_up(rt, hub, service);
         }
         if service.page.is_some() {
-            let shown = scope.spawn(move || show(rt, hub, service));
+            let shown = scope.spawn(move || show(rt, hub, service, told));
             if !was_spawned(shown) {
                 return give_up(rt, hub, service);
             }
@@ -474,7 +476,7 @@ where
     L: LogName + SlotName,
     R: Wait + Clock,
 {
-    service.listeners.close_status(rt);
+    service.listeners.close_status();
     service.listeners.termination.close(rt);
     end_server(rt, hub, service.listeners);
     Err(AllocError)
@@ -521,13 +523,16 @@ where
 }
 
 /// Tells whoever asks what runs, if there is a place for that.
-fn show<L, R>(rt: &R, hub: &Hub<L>, service: &Service)
+fn show<L, R>(rt: &R, hub: &Hub<L>, service: &Service, told: &Told)
 where
     L: LogName + SlotName,
-    R: Wait + Clock,
+    R: Wait + Clock + RandomSource,
 {
-    if let Some(page) = service.page {
-        serve_status(rt, hub, page, service.listeners);
+    let Some(page) = service.page else {
+        return;
+    };
+    if let Err(fault) = serve_status(rt, hub, page, service.listeners) {
+        told.line(rt, format_args!("pubd: the status page has ended: {fault}"));
     }
 }
 
@@ -541,7 +546,7 @@ where
     let served = serve(rt, service.listener, hub, service.connections, &reports);
     service.listeners.end_connections();
     hub.end_awaiting(rt);
-    service.listeners.close_status(rt);
+    service.listeners.close_status();
     service.listeners.termination.close(rt);
     match served {
         Err(fault) if !hub.is_ending() => {

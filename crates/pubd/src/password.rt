@@ -1,5 +1,6 @@
 //! `--password-of NAME`: what a server keeps of a password.
 
+use saslprep::prepared;
 use scram::{SALT_BYTES, line_of_user};
 use std::alloc::{AllocError, Global};
 use std::io;
@@ -14,8 +15,6 @@ pub enum PasswordFault {
     Name,
     #[error("the password is empty")]
     Empty,
-    #[error("the password has bytes beyond ASCII: let PostgreSQL make its verifier, and copy that from pg_authid")]
-    BeyondAscii,
     #[error("the password cannot be read: {0}")]
     Input(io::Error),
     #[error("no salt can be drawn: {0}")]
@@ -29,10 +28,7 @@ pub enum PasswordFault {
 impl PasswordFault {
     /// Whether the name or the password is refused.
     pub fn is_bad_input(&self) -> bool {
-        matches!(
-            self,
-            PasswordFault::Name | PasswordFault::Empty | PasswordFault::BeyondAscii
-        )
+        matches!(self, PasswordFault::Name | PasswordFault::Empty)
     }
 }
 
@@ -46,7 +42,8 @@ pub fn tell_password(rt: &HostRuntime, name: &str) -> Result<(), PasswordFault> 
     let password = password_in(input.as_str())?;
     let mut salt = [0; SALT_BYTES];
     rt.fill_bytes(&mut salt).map_err(PasswordFault::Salt)?;
-    let line = line_of_user(rt.alloc(), name, password.as_bytes(), salt)?;
+    let prepared = prepared(rt.alloc(), password.as_bytes())?;
+    let line = line_of_user(rt.alloc(), name, prepared.as_slice(), salt)?;
     println!(rt; "{line}").map_err(PasswordFault::Output)
 }
 
@@ -54,14 +51,11 @@ fn is_name(name: &str) -> bool {
     !name.is_empty() && !name.contains(':') && !name.contains('\n') && !name.contains('\0')
 }
 
-/// The first line. SASLprep, by which clients prepare a password, leaves ASCII as it is.
+/// The first line.
 fn password_in(input: &str) -> Result<&str, PasswordFault> {
     let password = input.strip_suffix('\n').unwrap_or(input);
     if password.is_empty() {
         return Err(PasswordFault::Empty);
-    }
-    if !password.is_ascii() {
-        return Err(PasswordFault::BeyondAscii);
     }
     Ok(password)
 }

@@ -1,194 +1,163 @@
-//! A page over HTTP that tells what runs.
+//! A page over HTTP that tells what runs, to many at once on one thread: none of them waits for another.
 
-ghost use Rattle.std.specs.Prelude.{◌≤◌, IfOk, IfSome, length};
-
+use crate::asker::Asker;
 use crate::ending::ListenerHandles;
-use crate::status_text::write_status;
+use crate::status_service::StatusService;
 use hub::Hub;
+use mio::net::TcpStream;
+use mio::unix::SourceFd;
+use mio::{Events, Interest, Poll, Token};
 use shared_log::LogName;
 use slots::SlotName;
-use std::io::{ErrorKind, Read, Write};
-use std::net::{TcpListener, TcpStream};
+use std::alloc::Global;
+use std::io::ErrorKind;
+use std::net::TcpListener;
+use std::os::fd::AsRawFd;
+use std::random::RandomSource;
 use std::sync::Wait;
-use std::time::{Clock, Duration, Instant};
-use std::{io, thread};
+use std::time::{Clock, Duration};
+use std::{io, net};
 
-/// How many bytes of a request are read: its first line and more than that.
-const MOST_READ: usize = 4096;
+/// How many may ask at once. One more has the one go that began first.
+const MOST_ASKERS: usize = 64;
 
-/// For how many seconds a request is read and answered.
-const PATIENCE: u64 = 5;
+/// How many events are taken at once. Each turn looks at all who ask, so that none is lost.
+const EVENTS: usize = 64;
 
 /// For how many milliseconds a listener rests that can't give a connection for now.
 const REST: u64 = 100;
 
-/// Answers one request after the other, until the page is over.
-pub fn serve_status<L, R>(rt: &R, hub: &Hub<L>, listener: &TcpListener, listeners: &ListenerHandles)
-where
-    L: LogName + SlotName,
-    R: Wait + Clock,
-{
-    for _ in rt.forever() {
-        let accepted = listener.accept();
-        if listeners.is_status_over() {
-            break;
-        }
-        match accepted {
-            Ok((socket, _)) => {
-                let _ = answer_one(rt, hub, listeners, &socket);
-            }
-            Err(_) => thread::sleep(rt, Duration::from_millis(REST)),
-        }
-    }
-}
+/// Events of the listener, and of who asks.
+const LISTENER: Token = Token(0);
 
-/// What a request asks for.
-#[derive(Clone, Copy)]
-enum Asked {
-    Page,
-    OtherPage,
-    OtherMethod,
-}
+const ASKER: Token = Token(1);
 
-impl Asked {
-    /// By the first line of the request.
-    fn of(request: &[u8]) -> Self {
-        if !request.starts_with(b"GET ") {
-            return Asked::OtherMethod;
-        }
-        if request.starts_with(b"GET / ") || request.starts_with(b"GET /metrics ") {
-            return Asked::Page;
-        }
-        Asked::OtherPage
-    }
-
-    fn status_line(self) -> &'static str {
-        match self {
-            Asked::Page => "200 OK",
-            Asked::OtherPage => "404 Not Found",
-            Asked::OtherMethod => "405 Method Not Allowed",
-        }
-    }
-}
-
-/// Answers a request, unless the page is over. Whoever ends it meanwhile closes the socket.
-fn answer_one<L, R>(
+/// Tells whoever asks what runs, until the page is over.
+pub fn serve_status<L, R>(
     rt: &R,
     hub: &Hub<L>,
+    listener: &TcpListener,
     listeners: &ListenerHandles,
-    socket: &TcpStream,
 ) -> io::Result<()>
 where
     L: LogName + SlotName,
-    R: Wait + Clock,
+    R: Wait + Clock + RandomSource,
 {
-    listeners.set_asking(rt, Some(socket.try_clone()?));
-    let answered = if listeners.is_status_over() {
-        Ok(())
-    } else {
-        answer(rt, hub, socket)
-    };
-    listeners.set_asking(rt, None);
-    answered
-}
-
-/// What is left of the time of a request that began then.
-fn left<R: Clock>(rt: &R, begun: Instant) -> io::Result<Option<Duration>> {
-    match Duration::from_secs(PATIENCE).checked_sub(begun.elapsed(rt)?) {
-        Some(left) if !left.is_zero() => Ok(Some(left)),
-        _ => Err(io::Error::from(ErrorKind::TimedOut)),
-    }
-}
-
-/// Reads a request up to its empty line, or so much of it as is read.
-fn read_request<R: Clock>(rt: &R, socket: &TcpStream, begun: Instant) -> io::Result<Asked> {
-    let mut bytes = [0; MOST_READ];
-    let mut count = 0;
-    for _ in 0..u64::MAX {
-        if MOST_READ <= count || bytes[..count].ends_with(b"\r\n\r\n") {
+    let mut page = Page::new(&listeners.host, hub, listener)?;
+    for _ in rt.forever() {
+        page.wait(rt)?;
+        if listeners.is_status_over() {
             break;
         }
-        socket.set_read_timeout(left(rt, begun)?)?;
-        match read_some(socket, &mut bytes[count..])? {
-            Some(0) => break,
-            Some(more) => count += more,
-            None => {}
-        }
-    }
-    Ok(Asked::of(&bytes[..count.min(MOST_READ)]))
-}
-
-/// Reads what there is. None: a signal came first.
-fn read_some(socket: &TcpStream, room: &mut [u8]) -> io::Result<Option<usize>>
-    ensures { IfOk result (λ more. IfSome more (λ n. n ≤ length room.old)) }
-{
-    let mut from = socket;
-    match from.read(room) {
-        Ok(count) => Ok(Some(count)),
-        Err(error) if error.kind() == ErrorKind::Interrupted => Ok(None),
-        Err(error) => Err(error),
-    }
-}
-
-fn answer<L, R>(rt: &R, hub: &Hub<L>, socket: &TcpStream) -> io::Result<()>
-where
-    L: LogName + SlotName,
-    R: Wait + Clock,
-{
-    let begun = Instant::now(rt)?;
-    let asked = read_request(rt, socket, begun)?;
-    let mut page = Vec::new(hub.alloc());
-    write_page(rt, hub, asked, &mut page)?;
-    send(rt, socket, begun, page.as_slice())
-}
-
-fn send<R: Clock>(rt: &R, socket: &TcpStream, begun: Instant, bytes: &[u8]) -> io::Result<()> {
-    let mut rest = bytes;
-    for _ in 0..u64::MAX {
-        if rest.is_empty() {
-            break;
-        }
-        socket.set_write_timeout(left(rt, begun)?)?;
-        let count = write_some(socket, rest)?;
-        rest = &rest[count..];
+        page.turn(rt, hub, listener)?;
     }
     Ok(())
 }
 
-/// Writes some of the bytes: none where a signal came first.
-fn write_some(socket: &TcpStream, bytes: &[u8]) -> io::Result<usize>
-    ensures { IfOk result (λ n. n ≤ length bytes.now) }
-{
-    let mut to = socket;
-    match to.write(bytes) {
-        Ok(0) => Err(io::Error::from(ErrorKind::WriteZero)),
-        Ok(count) => Ok(count),
-        Err(error) if error.kind() == ErrorKind::Interrupted => Ok(0),
-        Err(error) => Err(error),
+/// Those who ask, in the order in which they came, and what they and the listener wait for.
+#[derive(Drop)]
+struct Page {
+    poll: Poll,
+    events: Events,
+    askers: Vec<Asker>,
+    /// After how long the listener is looked at again, where it has more to give, or gave a fault.
+    pause: Option<Duration>,
+}
+
+impl Page {
+    fn new<L: LogName + SlotName>(
+        host: &HostRuntime,
+        hub: &Hub<L>,
+        listener: &TcpListener,
+    ) -> io::Result<Self> {
+        let poll = Poll::new(host)?;
+        listener.set_nonblocking(true)?;
+        let fd = listener.as_raw_fd();
+        poll.registry()
+            .register(&mut SourceFd(&fd), LISTENER, Interest::READABLE)?;
+        Ok(Page {
+            poll,
+            events: Events::with_capacity(hub.alloc(), EVENTS)?,
+            askers: Vec::new(hub.alloc()),
+            pause: None,
+        })
+    }
+
+    /// Waits until somebody comes, or can go on, or has asked for too long.
+    fn wait<R: Clock>(&mut self, rt: &R) -> io::Result<()> {
+        let left = match self.askers.first() {
+            Some(first) => Some(first.left(rt.monotonic()?)),
+            None => None,
+        };
+        self.poll.poll(&mut self.events, self.pause.or(left))
+    }
+
+    /// Takes who has come, and goes on with each who asks.
+    fn turn<L, R>(&mut self, rt: &R, hub: &Hub<L>, listener: &TcpListener) -> io::Result<()>
+    where
+        L: LogName + SlotName,
+        R: Wait + Clock + RandomSource,
+    {
+        self.pause = Some(Duration::from_millis(0));
+        for _ in 0..MOST_ASKERS {
+            match listener.accept() {
+                Ok((socket, _)) => {
+                    let _ = self.add(rt, hub.alloc(), socket);
+                }
+                Err(fault) => {
+                    self.pause = pause_after(&fault);
+                    break;
+                }
+            }
+        }
+        self.go_on(rt, hub)
+    }
+
+    /// One more asks.
+    fn add<R: Clock + RandomSource>(
+        &mut self,
+        rt: &R,
+        alloc: Global,
+        socket: net::TcpStream,
+    ) -> io::Result<()> {
+        socket.set_nonblocking(true)?;
+        let mut asker = Asker::new(rt, alloc, TcpStream::from_std(socket), rt.monotonic()?)?;
+        let both = Interest::READABLE | Interest::WRITABLE;
+        self.poll
+            .registry()
+            .register(&mut asker.socket, ASKER, both)?;
+        if MOST_ASKERS <= self.askers.len() {
+            self.askers.remove(0);
+        }
+        self.askers.push(asker)?;
+        Ok(())
+    }
+
+    /// Goes on with each who asks. Those that are over go.
+    fn go_on<L, R>(&mut self, rt: &R, hub: &Hub<L>) -> io::Result<()>
+    where
+        L: LogName + SlotName,
+        R: Wait + Clock,
+    {
+        let now = rt.monotonic()?;
+        let mut service = StatusService { rt, hub };
+        for place in (0..self.askers.len()).rev() {
+            let stays = match self.askers.get_mut(place) {
+                Some(asker) => asker.go_on(&mut service, now),
+                None => true,
+            };
+            if !stays && place < self.askers.len() {
+                self.askers.remove(place);
+            }
+        }
+        Ok(())
     }
 }
 
-fn write_page<L, R>(rt: &R, hub: &Hub<L>, asked: Asked, page: &mut Vec<u8>) -> io::Result<()>
-where
-    L: LogName + SlotName,
-    R: Wait + Clock,
-{
-    write!(
-        page,
-        "HTTP/1.1 {}\r\nContent-Type: text/plain; version=0.0.4\r\nConnection: close\r\n\r\n",
-        asked.status_line()
-    )?;
-    match asked {
-        Asked::Page => write_hub(rt, hub, page),
-        Asked::OtherPage | Asked::OtherMethod => writeln!(page, "what runs is told at /metrics"),
+/// After how long a listener is looked at again that gave this fault: None where nobody waits there.
+fn pause_after(fault: &io::Error) -> Option<Duration> {
+    if fault.kind() == ErrorKind::WouldBlock {
+        return None;
     }
-}
-
-fn write_hub<L, R>(rt: &R, hub: &Hub<L>, page: &mut Vec<u8>) -> io::Result<()>
-where
-    L: LogName + SlotName,
-    R: Wait + Clock,
-{
-    let status = hub.status(rt)?;
-    write_status(&status, page)
+    Some(Duration::from_millis(REST))
 }

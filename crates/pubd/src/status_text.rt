@@ -1,8 +1,8 @@
 //! What runs, in Prometheus' text exposition format.
 
 use hub::{HubStatus, SlotStatus};
-use std::io;
 use std::io::Write;
+use std::{fmt, io};
 
 /// What is told of the server: the name of the family, its kind, and what it is.
 const SERVER_FAMILIES: [(&str, &str, &str); 5] = [
@@ -49,7 +49,7 @@ fn server_value_of(family: &str, status: &HubStatus) -> u64 {
 }
 
 /// What is told of each slot: the name of the family, its kind, and what it is.
-const SLOT_FAMILIES: [(&str, &str, &str); 11] = [
+const SLOT_FAMILIES: [(&str, &str, &str); 13] = [
     (
         "pubd_slot_active",
         "gauge",
@@ -96,6 +96,16 @@ const SLOT_FAMILIES: [(&str, &str, &str); 11] = [
         "How long ago its client's last status came",
     ),
     (
+        "pubd_slot_behind_seconds",
+        "gauge",
+        "How long ago the log came past what its client has confirmed: 0 where it has confirmed all",
+    ),
+    (
+        "pubd_slot_flush_lag_seconds",
+        "gauge",
+        "How long its client took the last time, or takes by now if that is longer, to confirm what was sent",
+    ),
+    (
         "pubd_slot_kept_records",
         "gauge",
         "Records of the log that are kept for the slot",
@@ -127,8 +137,36 @@ fn label_of(slot: &SlotStatus) -> &str {
     }
 }
 
+/// What a line tells of a slot.
+#[derive(Clone, Copy)]
+enum Value {
+    Number(u64),
+    /// Microseconds, which are told as seconds.
+    Time(u64),
+}
+
+impl fmt::Display for Value {
+    fn fmt<W: fmt::Write>(&self, f: &mut fmt::Formatter<W>) -> fmt::Result {
+        match *self {
+            Value::Number(number) => write!(f, "{number}"),
+            Value::Time(micros) => { write!(f, "{}.{:06}", micros / MICROS, micros % MICROS) }
+        }
+    }
+}
+
+/// How many microseconds a second has.
+const MICROS: u64 = 1_000_000;
+
 /// The value of a family for a slot, if it has one.
-fn value_of(family: &str, slot: &SlotStatus, log_end: u64) -> Option<u64> {
+fn value_of(family: &str, slot: &SlotStatus, log_end: u64) -> Option<Value> {
+    match family {
+        "pubd_slot_behind_seconds" => Some(Value::Time(slot.behind_for)),
+        "pubd_slot_flush_lag_seconds" => slot.flush_lag.map(Value::Time),
+        other => number_of(other, slot, log_end).map(Value::Number),
+    }
+}
+
+fn number_of(family: &str, slot: &SlotStatus, log_end: u64) -> Option<u64> {
     match family {
         "pubd_slot_active" => Some(u64::from(slot.is_active)),
         "pubd_slot_held" => Some(u64::from(slot.is_held)),

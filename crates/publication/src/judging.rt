@@ -169,6 +169,7 @@ impl Selection {
     }
 
     /// Whether a truncate has one, of which these are the count and the OIDs.
+    // Its OIDs aren't on the stack while another kind of change is judged.
     #[inline(never)]
     fn tells_truncate(&self, fields: &[u8]) -> bool
         ensures told { (oids : List ℕ) → oids_at fields.now ≡ Ok (oids, []) →

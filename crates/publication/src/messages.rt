@@ -11,7 +11,7 @@ ghost use Rattle.publication.specs.Projection.{message_of_update};
 use row_messages::{put_deletion, put_insertion, put_replacement};
 use tables::{RowRef, Table};
 
-/// By whether the old row passed and the new one passes.
+/// By whether the old row passed and the new one passes (PostgreSQL 15, 31.3.3).
 pub(crate) fn put_update(
     out: &mut [u8],
     table: &Table,

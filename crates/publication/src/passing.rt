@@ -34,7 +34,7 @@ fn admits(table: &PublishedTable, oid: u32, row: &RowRef<'_>) -> bool
     table.oid == oid && lets_pass(table, row)
 }
 
-/// Whether the filter is true of the row. One that is unknown doesn't let it pass.
+/// Whether the filter is true of the row. One that is unknown doesn't let it pass (PostgreSQL 15, 31.3.1).
 fn lets_pass(table: &PublishedTable, row: &RowRef<'_>) -> bool
     ensures { result ≡ lets_pass table.now.filter row.now }
 {

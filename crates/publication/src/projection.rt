@@ -33,7 +33,8 @@ pub enum Projected {
 }
 
 impl Selection {
-    /// The message of a change whose record starts at the position, if it has one.
+    /// The message of a change whose record starts at the position, or `Nothing` where it isn't published. `AllocError` where
+    /// memory is refused.
     pub fn project(&self, position: u64, change: &Change) -> Result<Projected, AllocError>
         ensures value { IfOk result
             (λ p. p ≡ projection_of (change_message self.now position change.now)) }
@@ -60,7 +61,7 @@ impl Selection {
         }
     }
 
-    /// The Relation of a table; None for one outside the selection.
+    /// The Relation of a table; None for one outside the selection. `AllocError` where memory is refused.
     pub fn relation(&self, oid: u32) -> Result<Option<Logical>, AllocError>
         ensures value { IfOk result
             (λ o. o

@@ -21,8 +21,7 @@ use toml::Value;
 
 /// The publications of a publisher, over the tables of its catalogue.
 ///
-/// A configuration names them, and `select` may be called any number of times. Its P1 says that a name is no publication's, P2 that two of
-/// the publications list other columns of one table, and P7 is want of memory; none changes anything.
+/// A configuration names them, and `select` may be called any number of times. It changes nothing, whatever it answers.
 #[derive(Drop)]
 pub struct Publications {
     alloc: Global,
@@ -53,8 +52,9 @@ impl Model for Publications {
 }
 
 impl Publications {
-    /// The publications that the text of a configuration names over the tables of the catalogue, in its order. What a publication is told by
-    /// stands in docs/CONFIGURATION.md.
+    /// The publications that the text of a configuration names over the tables of the catalogue, in its order. What a
+    /// publication is told by stands in docs/CONFIGURATION.md. `NotToml` (P6) where it is no TOML; other faults are those of
+    /// `of_document`.
     pub fn from_toml(alloc: Global, text: &str, catalog: &Catalog) -> Result<Self, PubFault>
         ensures { Configures result (configured_by catalog.now text.now) }
     {
@@ -62,7 +62,9 @@ impl Publications {
         Ok(Publications::over(alloc, catalog, publications)?)
     }
 
-    /// The publications that the document of a configuration names over the tables of the catalogue.
+    /// The publications that the document of a configuration names over the tables of the catalogue. The first fault is
+    /// answered: `BadToml` (P6), `BadFilter` (P8), `NoIdentity` (P5), `ListWithoutIdentity` (P4) or `FilterOutsideIdentity`
+    /// (P3), as docs/CONFIGURATION.md tells them. Or `Memory` (P7).
     pub fn of_document(alloc: Global, document: &Value, catalog: &Catalog) -> Result<Self, PubFault>
         ensures { ReadsPublications result (publications_in catalog.now (view document.now)) }
     {
@@ -88,8 +90,9 @@ impl Publications {
         })
     }
 
-    /// The publications of these names, each once. A name that no publication has is P1; two of them that have different column
-    /// lists for one table are P2, a table without a list having all columns.
+    /// The publications of these names, each once. A name that no publication has is `Unknown` (P1); two of them that have
+    /// different column lists for one table are `ListConflict` (P2, PostgreSQL 15, 31.4), a table without a list having all
+    /// columns. Or `Memory` (P7).
     pub fn select(&self, names: &[Text]) -> Result<Selection, PubFault>
         ensures ok { IfOk result (λ s. s ≡ selected_publications self.now names.now) }
         ensures known { IfOk result (λ s. is_unknown self.now names.now ≡ false) }
@@ -109,7 +112,7 @@ impl Publications {
         Ok(Selection::new(self.alloc, tables, publications)?)
     }
 
-    /// Why these names select nothing, if they don't: P1, or else P2. It takes no memory.
+    /// Why these names select nothing, if they don't: `Unknown` (P1), or else `ListConflict` (P2). It takes no memory.
     pub fn judge(&self, names: &[Text]) -> Result<(), PubFault>
         ensures { result ≡ judgement_of_names self.now names.now }
     {
@@ -146,6 +149,7 @@ fn copies(alloc: Global, tables: &[Table]) -> Result<Items<Table>, AllocError>
     match copy_into(alloc, &mut copies, tables) {
         Ok(()) => Ok(Items::new(copies)),
         Err(refused) => {
+            // Let go by one call, which keeps the proof short.
             drop(copies);
             Err(refused)
         }

@@ -105,6 +105,7 @@ impl Selection {
         ensures found { IfSome result (λ _. IsReadWhole (update_at fields.now)) }
         ensures same { length out.new ≡ length out.old }
     {
+        // All tables fit: here the prover learns it.
         let _ = &self.tables;
         let mut old = RowRef::new();
         let mut new = RowRef::new();
@@ -145,6 +146,7 @@ impl Selection {
         ensures found { IfSome result (λ _. IsReadWhole (insert_at fields.now)) }
         ensures same { length out.new ≡ length out.old }
     {
+        // All tables fit: here the prover learns it.
         let _ = &self.tables;
         let mut old = RowRef::new();
         let oid = one_row(fields, &mut old)?;

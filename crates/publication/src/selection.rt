@@ -75,7 +75,7 @@ impl Selection {
         }
     }
 
-    /// These publications, over the tables of a catalogue.
+    /// These publications, over the tables of a catalogue. `AllocError` where memory for their OIDs is refused.
     pub fn new(
         alloc: Global,
         tables: Items<Table>,
@@ -150,6 +150,7 @@ impl Selection {
         publications.any(|publication| publication.publishes(operation, oid))
     }
 
+    /// Whether one of the publications lets the row pass (PostgreSQL 15, 31.3.6).
     pub(crate) fn passes(&self, operation: Operation, oid: u32, row: &RowRef<'_>) -> bool
         ensures { result ≡ passes self.now operation oid row.now }
     {

@@ -13,7 +13,8 @@ use pqformat::Items;
 use std::alloc::Global;
 use toml::Value;
 
-/// The publications that the text of a configuration names over the tables of the catalogue, in its order.
+/// The publications that the text of a configuration names over the tables of the catalogue, in its order. A text that is no
+/// TOML is `NotToml` (P6). Other faults are those of `publications_in`.
 #[tactic(auto, using(crate::proofs::Configured::configured))]
 pub fn configured_by(
     alloc: Global,
@@ -29,7 +30,11 @@ pub fn configured_by(
     }
 }
 
-/// The publications that the document of a configuration names over the tables of the catalogue.
+/// The publications that the document of a configuration names over the tables of the catalogue. The first fault is answered:
+/// `BadToml` (P6) where something is told otherwise than docs/CONFIGURATION.md says, `BadFilter` (P8) where a text is no filter
+/// of its table. Where updates or deletes are published, `NoIdentity` (P5) for a table without one (PostgreSQL 15, 31.1),
+/// `ListWithoutIdentity` (P4) for columns that lack one of it (31.4), `FilterOutsideIdentity` (P3) for a filter that names
+/// another column (31.3.1). Or `Memory` (P7).
 #[tactic(auto, using(crate::proofs::Configured::refused_so))]
 pub fn publications_in(
     alloc: Global,

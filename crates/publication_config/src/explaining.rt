@@ -18,8 +18,9 @@ const COMPARED: &str =
 /// The most characters that it shows before a mark.
 const MOST_BEFORE: usize = 30;
 
-/// The fault that a document was refused with over this catalogue, in lines for whoever wrote it: the fault, the names of its publication and
-/// its table, and of a filter that is none its text, with a mark under the byte at fault.
+/// The fault that a document was refused with over this catalogue, in lines for whoever wrote it: the fault, the names of its
+/// publication and its table, and of a filter that is none its text, with a mark under the byte at fault. `AllocError` where
+/// memory for them is refused.
 pub fn explained(
     alloc: Global,
     document: &Value,

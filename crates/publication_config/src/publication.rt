@@ -29,7 +29,7 @@ impl Publication {
         })
     }
 
-    /// What it publishes of the table of this OID, if it has the table.
+    /// What it publishes of the table of this OID; None where it doesn't have the table.
     pub fn table(&self, oid: u32) -> Option<&PublishedTable>
         ensures { option_copied result ≡ table_in oid self.now }
     {
@@ -76,7 +76,8 @@ impl Publication {
     }
 }
 
-/// Whether two of the publications of these names have different column lists for one table.
+/// Whether two of the publications of these names have different column lists for one table, which PostgreSQL doesn't serve
+/// either (PostgreSQL 15, 31.4).
 pub fn conflict(publications: &[Publication], names: &[Text]) -> bool
     ensures { result ≡ conflicts (publications_named names.now publications.now) }
 {
@@ -116,7 +117,7 @@ fn has_listing_otherwise(
         .any(|p| p.is_among(names) && p.lists_otherwise(table))
 }
 
-/// Those of the publications that have one of the names.
+/// Those of the publications that have one of the names. `AllocError` where memory for their copies is refused.
 pub fn named(
     alloc: Global,
     publications: &[Publication],

@@ -20,7 +20,7 @@ pub struct PublishedTable {
 }
 
 impl PublishedTable {
-    /// All rows and columns of a table.
+    /// All rows and columns of a table. `AllocError` where memory for it is refused.
     pub fn whole(alloc: Global, table: &Table) -> Result<Self, AllocError>
         ensures { IfOk result (λ t. t ≡ published_whole table.now) }
     {

@@ -76,7 +76,8 @@ impl Reorder {
         self.strands.free()
     }
 
-    /// Takes the next record of a log, and answers what it makes ready.
+    /// Takes the next record of a log, and answers what it makes ready. A change for which the arena has no room is `Full`
+    /// (Q1), and where other memory is refused it is `Memory` (Q2). After either, each record is `Failed` (Q3).
     pub fn take(&mut self, next: &Record) -> Result<Step, ReorderFault>
         ensures ok { IfOk result
             (λ step. Takes self.old self.new next.now (readied_changes self.new step)) }
@@ -118,6 +119,7 @@ impl Reorder {
         if self.failed {
             return Err(ReorderFault::Failed);
         }
+        // Stays set where the record is refused.
         self.failed = true;
         let step = self.regroup(next)?;
         self.failed = false;

@@ -40,9 +40,10 @@ pub enum Command {
 
 /// The command that the text spells, all of it.
 ///
-/// The leftmost fault is answered: C1 where the words are none of a command, C2 at a name that no slot can have, C3 at a
-/// word that is no position, C4 at what is left out here, C5 at an option or a value that isn't known; and after all
-/// those C5 where an option stands twice or is missing. Or C6, out of memory.
+/// The leftmost fault is answered: `Syntax` (C1) where the words are none of a command, `BadName` (C2) at a name that no slot
+/// can have, `BadPosition` (C3) at a word that is no position, `Unsupported` (C4) at what is left out here, `BadOption` (C5) at
+/// an option or a value that isn't known; and after all those `BadOption` where an option stands twice or is missing. Or
+/// `Memory` (C6).
 pub fn parse_command(alloc: Global, text: &str) -> Result<Command, CmdFault>
     // What is read is spelled so.
     ensures found { IfOk result (λ c. SpellsCommand text.now c) }

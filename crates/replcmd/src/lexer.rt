@@ -74,8 +74,8 @@ fn word_bytes(alloc: Global, text: &[u8]) -> Result<(Vec<u8>, &[u8]), AllocError
     Ok((found, rest))
 }
 
-/// The text up to the closing quote, after the opening one, and what follows that; None where no quote closes it. A quote
-/// that is meant stands twice.
+/// The text up to the closing quote, after the opening one, and what follows that; None where no quote closes it. A quote that
+/// is meant stands twice. `AllocError` where memory for it is refused.
 pub fn quoted_of(alloc: Global, quote: u8, text: &[u8]) -> Result<Option<(Text, &[u8])>, AllocError>
     requires ascii { quote < 128 }
     requires utf8 { IsUtf8 text.now }

@@ -8,7 +8,8 @@ ghost use Rattle.replcmd.specs.Reading.{position_of};
 use crate::fault::CmdFault;
 use std::alloc::{AllocError, Global};
 
-/// The position that the text spells, all of it, as `16/B374D848` does; a text that spells none is C3.
+/// The position that the text spells, all of it, as `16/B374D848` does (PostgreSQL 15, 8.20); a text that spells none is
+/// `BadPosition` (C3).
 pub fn parse_position(text: &str) -> Result<u64, CmdFault>
     ensures found { IfOk result (λ n. SpellsPosition text.now n) }
     ensures only { (n : ℕ) → SpellsPosition text.now n → result ≡ Ok n }
@@ -39,7 +40,7 @@ fn half(text: &str) -> Option<u32>
     u32::from_str_radix(text, 16).ok()
 }
 
-/// The text of the position, in upper case and without leading zeros.
+/// The text of the position, in upper case and without leading zeros. `AllocError` where memory for it is refused.
 pub fn write_position(alloc: Global, position: u64) -> Result<String, AllocError>
     ensures text { IfOk result (λ s. string_bytes s ≡ position_text position) }
     ensures read_again { IfOk result (λ s. SpellsPosition (string_bytes s) position) }

@@ -19,7 +19,7 @@ pub struct StreamOptions {
     /// `publication_names`: the publications that are asked for.
     pub publications: Items<Text>,
     /// `messages`: whether the messages that sessions put into the log are told too, as those of pg_logical_emit_message
-    /// in PostgreSQL; false where nothing is said of them.
+    /// in PostgreSQL (PostgreSQL 15, 9.27.6); false where nothing is said of them.
     pub messages: bool,
 }
 
@@ -149,6 +149,7 @@ pub(crate) fn gathered(settings: Vec<Setting>) -> Result<StreamOptions, CmdFault
     ensures { result ≡ told_options settings.items }
 {
     if declines_twice(settings.as_slice()) {
+        // Let go by one call, which keeps the proof short.
         drop(settings);
         return Err(CmdFault::BadOption(OptionFault::Redundant));
     }

@@ -13,8 +13,8 @@ use std::alloc::{AllocError, Global};
 /// How many tokens stand before the first option: two words, the slot, a word, the position, and the bracket.
 const BEFORE_OPTIONS: usize = 6;
 
-/// The name in a text for which `parse_command` answers that an option is unrecognized (C5): the first one in its list of options
-/// that no option has. None where there is no such name.
+/// The name in a text for which `parse_command` answers that an option is unrecognized (C5): the first one in its list of
+/// options that no option has. None where there is no such name. `AllocError` where memory is refused.
 pub fn unrecognized_option(alloc: Global, text: &str) -> Result<Option<Text>, AllocError>
     ensures { IfOk result (λ name. Unrecognized text.now name) }
 {

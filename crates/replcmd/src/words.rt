@@ -68,7 +68,7 @@ pub(crate) fn folded(alloc: Global, word: &str) -> Result<Text, AllocError>
     Ok(Text::new(string))
 }
 
-/// Whether the name is one of a slot: 1 to 63 lower-case letters, digits and underscores.
+/// Whether the name is one of a slot: 1 to 63 lower-case letters, digits and underscores (PostgreSQL 15, 27.2.6.1).
 pub fn is_slot_name(name: &str) -> bool
     ensures { result ≡ is_slot_name name.now }
 {

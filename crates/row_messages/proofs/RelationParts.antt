@@ -17,6 +17,7 @@ use Rattle.publication_config.specs.Published.{is_identity, is_listed}
 use Rattle.row_messages.specs.Kinds.{type_modifier, type_oid}
 use Rattle.row_messages.specs.Relations.{identity_of, listed_items, relation_column, relation_of, table_as_published}
 use Rattle.pqformat.specs.Writing.{Writes}
+use Rattle.pqformat.proofs.Numbers.{length-int32}
 use Rattle.pqformat.proofs.Writing.{length_front, then}
 use Rattle.row_messages.proofs.Written.{off, on, past}
 
@@ -100,3 +101,22 @@ pub name_at : (cs : List Column) (i : ℕ) (c : Column) → i < length cs → c 
 name_at [] i c low is all = absurd (omega arith)
 name_at (d ∷ cs) zero c low is all = let same : d ≡ c = sym is in subst (λ x. length x.name ≤ 63) same all.0
 name_at (d ∷ cs) (suc i) c low is all = name_at cs i c (omega arith) is all.1
+
+-- where the first fields of a Relation end, up to its schema
+pub schema_at : (kind oid schema : ℕ) (tag number : ℕ) (s s' : List ℕ) (a b c d : List ℕ) → s ≡ s'
+    → Writes 0 kind a b (tag ∷ []) → Writes kind oid b c (int32 number) → Writes oid schema c d (string s)
+    → (schema ≡ 6 + length s') × (length d ≡ length a)
+schema_at kind oid schema tag number s s' a b c d s_is w₁ w₂ w₃ = (
+  omega (arith, w₁.ends, w₂.ends, w₃.ends, length-int32 number, length-append s (0 ∷ []), ap (length {A = ℕ}) s_is),
+  omega (arith, w₁.same, w₂.same, w₃.same),
+)
+
+-- the same up to its table's name
+pub named_at : (kind oid schema name : ℕ) (tag number : ℕ) (s n s' n' : List ℕ) (a b c d e : List ℕ) → s ≡ s' → n ≡ n'
+    → Writes 0 kind a b (tag ∷ []) → Writes kind oid b c (int32 number) → Writes oid schema c d (string s) → Writes schema name d e (string n)
+    → (name ≡ 7 + length s' + length n') × (length e ≡ length a)
+named_at kind oid schema name tag number s n s' n' a b c d e s_is n_is w₁ w₂ w₃ w₄ =
+    let at = schema_at kind oid schema tag number s s' a b c d s_is w₁ w₂ w₃ in (
+      omega (arith, at, w₄.ends, length-append n (0 ∷ []), ap (length {A = ℕ}) n_is),
+      omega (arith, at, w₄.same),
+    )

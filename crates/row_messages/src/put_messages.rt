@@ -101,7 +101,8 @@ fn put_replaced(
     }
 }
 
-/// None for a table without an identity, of whose rows nothing can be told once they are gone.
+/// Puts the Delete of this row into the room, and answers where it ends. None for a table without an identity, of whose rows
+/// nothing can be told once they are gone.
 pub fn put_deletion(
     out: &mut [u8],
     table: &Table,

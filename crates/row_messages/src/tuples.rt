@@ -17,7 +17,7 @@ use pqformat::{write_byte, write_int16};
 use publication_config::is_listed;
 use tables::{Column, RowRef, ValueRef};
 
-/// The tuple of the listed columns of a row.
+/// The tuple of the listed columns of a row (PostgreSQL 15, 55.9, TupleData).
 pub(crate) fn put_tuple(out: &mut [u8], at: usize, listed: &[bool], row: &RowRef<'_>) -> usize
     requires room { FitsRoom at out.old (tuple (tuple_of (listed_items listed.now row.now))) }
     requires few { length row.now < 2 ^ 15 }

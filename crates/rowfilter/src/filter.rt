@@ -52,6 +52,7 @@ impl Filter {
         })
     }
 
+    /// A copy; `AllocError` where memory for it is refused.
     pub fn copy(&self, alloc: Global) -> Result<Filter, AllocError>
         ensures { IfOk result (λ f. f ≡ self.now) }
     {

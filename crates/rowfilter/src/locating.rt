@@ -25,8 +25,8 @@ enum Sought {
     Operand(usize),
 }
 
-/// The byte of the text at which the fault stands that `parse` told of it, so that it can be marked where it is shown. What
-/// is missing at the end is told there; of two sides of different kinds, the second is told.
+/// The byte of the text at which the fault stands that `parse` told of it, so that it can be marked where it is shown. What is
+/// missing at the end is told there; of two sides of different kinds, the second is told. `AllocError` where memory is refused.
 pub fn fault_at(
     alloc: Global,
     text: &str,
@@ -85,6 +85,7 @@ fn end_of(
     let mut rest = text;
     while let Some((token, tail)) = token_of(alloc, rest)? {
         let ends = search.ends_at(alloc, &token, columns);
+        // Let go before the ways out, which keeps the proof short.
         drop(token);
         if ends? {
             return Ok(text.len().saturating_sub(behind_blanks(rest).len()));

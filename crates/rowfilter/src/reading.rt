@@ -23,8 +23,12 @@ pub const MOST_BYTES: usize = 4096;
 ///
 /// From the loosest to the tightest: OR, AND, NOT, `IS [NOT] NULL`, `TRUE`, `FALSE` or `UNKNOWN`, and one comparison of
 /// `= <> != < > <= >=` (PostgreSQL 15, 4.1.6 and 9.2). Operands are columns, integers, `'texts'`, TRUE, FALSE, NULL and
-/// parentheses. A text over 4,096 bytes is X1; of several faults the first in the order X1, X4, X5, X2, X3 is told. It
-/// takes no more stack for a deep text than for a flat one.
+/// parentheses. It takes no more stack for a deep text than for a flat one.
+///
+/// A text that isn't written so, or is over 4,096 bytes, is `Syntax` (X1). A number of over 64 bits is `NumberRange` (X4), over
+/// 64 levels are `TooDeep` (X5), a column that the table doesn't have is `UnknownColumn` (X2), and values of kinds that don't
+/// go together, or a text that is no condition, are `TypeMismatch` (X3). Of several faults the first in this order is told. Or
+/// `Memory` (X6).
 pub fn parse(alloc: Global, text: &str, table: &Table) -> Result<Filter, FilterFault>
     ensures found { IfOk result (λ f. SpellsFilter table.now text.now f) }
     ensures only { (c : Condition) → SpellsFilter table.now text.now c → GivesFilter result c }
@@ -42,6 +46,7 @@ fn filter_of(alloc: Global, text: &str, table: &Table) -> Result<Filter, FilterF
     let columns = table.columns.as_slice();
     let expression = condition_of(alloc, text, columns)?;
     if let Err(fault) = judge(&expression, columns) {
+        // Let go by one call, which keeps the proof short.
         drop(expression);
         return Err(fault);
     }

@@ -8,7 +8,7 @@ use client::ClientFault;
 use walsender::SendFault;
 
 impl Answer {
-    /// The refusal's code, or none where the event was done.
+    /// The refusal's code; None where the event was done.
     pub fn code(&self) -> Option<&'static str>
         ensures { option_map (λ c. c.now) result ≡ answer_code self.now }
     {

@@ -8,8 +8,8 @@ use crate::start_options::StartOptions;
 use std::alloc::Global;
 
 impl Event {
-    /// The event that a line of a schedule spells; the line end is not part of the line. V1 where the text is no such
-    /// line, V2 where there was no memory for the event.
+    /// The event that a line of a schedule spells; the line end is not part of the line. `BadEvent` (V1) where the text is no
+    /// such line, `Memory` (V2) where there was no memory for the event.
     pub fn parse(alloc: Global, line: &str) -> Result<Event, WorldFault> {
         match Event::read(alloc, line, Dialect::Schedule) {
             Ok(event) => Ok(event),
@@ -18,7 +18,7 @@ impl Event {
         }
     }
 
-    /// The same of a line of this dialect, with what is wrong with it.
+    /// The same of a line of this dialect; `Bad` tells what is wrong with it. Or `Memory`.
     pub fn read(alloc: Global, line: &str, dialect: Dialect) -> Result<Event, LineRefusal> {
         let mut fields = Fields::new(line, dialect);
         let word = fields.word()?;
@@ -26,6 +26,7 @@ impl Event {
         match fields.end() {
             Ok(()) => Ok(event),
             Err(fault) => {
+                // Let go by one call, which keeps the proof short.
                 drop(event);
                 Err(fault)
             }

@@ -6,8 +6,8 @@ use std::alloc::Global;
 use std::io;
 use std::io::Write;
 
-/// For each refused event the number of its line and its code, as in `7 S1`. The lines and the answers are those of the
-/// same events, in order.
+/// For each refused event the number of its line and its code, as in `7 S1`. The lines and the answers are those of the same
+/// events, in order. It fails as the output does.
 pub fn write_refusals<W: Write>(
     output: &mut W,
     lines: &[usize],
@@ -21,7 +21,8 @@ pub fn write_refusals<W: Write>(
     Ok(())
 }
 
-/// A connection's name, a colon, and the bytes that one start of its sender produced, in lower-case hexadecimal.
+/// A connection's name, a colon, and the bytes that one start of its sender produced, in lower-case hexadecimal. It fails as
+/// the output does, or where memory is refused.
 pub fn write_stream<W: Write>(
     alloc: Global,
     output: &mut W,
@@ -32,7 +33,7 @@ pub fn write_stream<W: Write>(
     writeln!(output, "{connection}:{digits}")
 }
 
-/// A slot, with the position that is confirmed of it.
+/// A slot, with the position that is confirmed of it. It fails as the output does, or where memory is refused.
 pub fn write_slot<W: Write>(
     alloc: Global,
     output: &mut W,
@@ -43,7 +44,8 @@ pub fn write_slot<W: Write>(
     writeln!(output, "slot {slot} {confirmed}")
 }
 
-/// A subscriber, by its connection's name, with its position and how many transactions it has applied.
+/// A subscriber, by its connection's name, with its position and how many transactions it has applied. It fails as the output
+/// does, or where memory is refused.
 pub fn write_subscriber<W: Write>(
     alloc: Global,
     output: &mut W,

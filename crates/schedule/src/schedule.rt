@@ -24,8 +24,8 @@ pub struct LineFault {
 }
 
 impl Schedule {
-    /// The events of all lines. Empty lines and lines that begin with `#` are passed over, but counted. The first line
-    /// that is no event is refused, and then no event is given.
+    /// The events of all lines. Empty lines and lines that begin with `#` are passed over, but counted. The first line that is
+    /// no event is refused, with its number: `BadEvent` (V1), or `Memory` (V2). Then no event is given.
     pub fn parse(alloc: Global, text: &str) -> Result<Schedule, LineFault> {
         let mut schedule = Schedule {
             events: Vec::new(alloc),
@@ -57,7 +57,7 @@ impl Schedule {
         self.events.as_slice()
     }
 
-    /// The event at this place, with its line, as one that could not happen there.
+    /// The event at this place, with its line, as one that could not happen there. None where no event has this place.
     pub fn into_bad_event(self, place: usize) -> Option<BadEvent> {
         let Schedule { mut events, lines } = self;
         let line = *lines.get(place)?;

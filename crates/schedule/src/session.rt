@@ -78,16 +78,15 @@ impl Session {
             publisher.old)
             publisher.old a publisher.new) }
         ensures same { self.new ≡ self.old }
-        ensures err { OnErr result (publisher.new ≡ publisher.old) }
-        ensures memory { OnErr result
-            (is_some (table_named table.now publisher.old.tables) ≡ true) }
+        ensures err { OnErr result ((publisher.new ≡ publisher.old)
+            × (is_some (table_named table.now publisher.old.tables) ≡ true)) }
         ensures grows { Grows publisher.old.log publisher.new.log }
     {
         let Some(table) = publisher.catalog().named(table.as_str()) else {
             return Ok(Answer::Session(SessionFault::UnknownTable));
         };
-        let oid = table.oid;
         let row = row_of(alloc, table.columns.as_slice(), row)?;
+        let oid = table.oid;
         match publisher.insert(rt, &mut self.tx, oid, row) {
             Ok(()) => return Ok(Answer::Done),
             Err(fault) => return Ok(Answer::Session(fault)),
@@ -112,17 +111,16 @@ impl Session {
             publisher.old)
             publisher.old a publisher.new) }
         ensures same { self.new ≡ self.old }
-        ensures err { OnErr result (publisher.new ≡ publisher.old) }
-        ensures memory { OnErr result
-            (is_some (table_named table.now publisher.old.tables) ≡ true) }
+        ensures err { OnErr result ((publisher.new ≡ publisher.old)
+            × (is_some (table_named table.now publisher.old.tables) ≡ true)) }
         ensures grows { Grows publisher.old.log publisher.new.log }
     {
         let Some(table) = publisher.catalog().named(table.as_str()) else {
             return Ok(Answer::Session(SessionFault::UnknownTable));
         };
-        let oid = table.oid;
         let key = key_of(alloc, table.columns.as_slice(), key)?;
         let row = row_of(alloc, table.columns.as_slice(), row)?;
+        let oid = table.oid;
         match publisher.update(rt, &mut self.tx, oid, &key, row) {
             Ok(()) => return Ok(Answer::Done),
             Err(fault) => return Ok(Answer::Session(fault)),
@@ -145,16 +143,15 @@ impl Session {
             publisher.old)
             publisher.old a publisher.new) }
         ensures same { self.new ≡ self.old }
-        ensures err { OnErr result (publisher.new ≡ publisher.old) }
-        ensures memory { OnErr result
-            (is_some (table_named table.now publisher.old.tables) ≡ true) }
+        ensures err { OnErr result ((publisher.new ≡ publisher.old)
+            × (is_some (table_named table.now publisher.old.tables) ≡ true)) }
         ensures grows { Grows publisher.old.log publisher.new.log }
     {
         let Some(table) = publisher.catalog().named(table.as_str()) else {
             return Ok(Answer::Session(SessionFault::UnknownTable));
         };
-        let oid = table.oid;
         let key = key_of(alloc, table.columns.as_slice(), key)?;
+        let oid = table.oid;
         match publisher.delete(rt, &mut self.tx, oid, &key) {
             Ok(()) => return Ok(Answer::Done),
             Err(fault) => return Ok(Answer::Session(fault)),

@@ -72,9 +72,9 @@ impl Sessions {
         }
     }
 
-    /// Does a session's line, and answers what a commit tells too; a note tells nothing so. V1 exactly where the line is of
-    /// another kind, its name is unknown, or it begins a second time; else V2 where memory is refused for what the line keeps.
-    /// Either changes nothing.
+    /// Does a session's line, and answers what a commit tells too; a note tells nothing so. `BadEvent` (V1) exactly where the
+    /// line is of another kind, its name is unknown, or it begins a second time; else `Memory` (V2) where memory is refused for
+    /// what the line keeps. Either changes nothing.
     pub fn line<L: LogName, R: Wait>(
         &mut self,
         rt: &R,

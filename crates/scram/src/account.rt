@@ -25,8 +25,8 @@ impl Account {
         }
     }
 
-    /// That of a name nobody has. Its salt is the same each time, so that who asks twice learns nothing; it comes of 32 bytes or
-    /// so that nobody else knows.
+    /// That of a name nobody has. Its salt is the same each time, so that who asks twice learns nothing; it comes of 32 bytes
+    /// or so that nobody else knows. `AllocError` where memory is refused.
     pub fn unknown(alloc: Global, secret: &[u8], name: &[u8]) -> Result<Self, AllocError>
         ensures nobody { IfOk result (λ account. account.is_known ≡ false) }
         ensures salt { IfOk result

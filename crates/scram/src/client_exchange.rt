@@ -44,7 +44,7 @@ impl ClientExchange {
         ClientExchange { name, nonce }
     }
 
-    /// The first message, without channel binding.
+    /// The first message, without channel binding (PostgreSQL 15, 55.3.1). `AllocError` where memory for it is refused.
     pub fn first(&self, alloc: Global) -> Result<Items<u8>, AllocError>
         ensures { IfOk result (λ text. text ≡ client_first self.now) }
     {
@@ -64,6 +64,8 @@ impl ClientExchange {
     }
 
     /// The answer of the server's first message, by a password as SASLprep (RFC 4013) leaves it; ASCII it leaves as it is.
+    /// Refuses a message that wants an extension (`ServerFault::Extension`), is of another form (`Malformed`), repeats another
+    /// nonce (`Nonce`), or has no salt in base64 (`Salt`) or no count of 1 to 1,000,000 rounds (`Rounds`). Or `Memory`.
     #[tactic(auto, using(crate::proofs::ServerFailing::fails))]
     pub fn answer(
         &self,
@@ -104,7 +106,8 @@ impl ClientExchange {
 }
 
 impl ClientAnswer {
-    /// Whether the server's last message proves that it knows the password too; else why not.
+    /// Whether the server's last message proves that it knows the password too. One that tells an error is
+    /// `ServerFault::Refused`, another one than the due one `Signature`.
     pub fn confirm(&self, text: &[u8]) -> Result<(), ServerFault>
         ensures { result ≡ confirmed self.now text.now }
     {

@@ -10,7 +10,7 @@ use base64::engine::general_purpose::STANDARD;
 use pqformat::Items;
 use std::alloc::{AllocError, Global};
 
-/// The text of these bytes.
+/// The text of these bytes. `AllocError` where memory for it is refused.
 #[tactic(auto, unfolding(crate::specs::Coding::base64))]
 pub fn base64_of(alloc: Global, bytes: &[u8]) -> Result<String, AllocError>
     ensures { IfOk result (λ text. string_bytes text ≡ base64 bytes.now) }

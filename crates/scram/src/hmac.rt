@@ -13,7 +13,7 @@ pub const DIGEST_BYTES: usize = 32;
 /// The bytes that SHA-256 takes in at once.
 const BLOCK_BYTES: usize = 64;
 
-/// The code of the text under the key.
+/// The code of the text under the key. `AllocError` where memory is refused.
 #[tactic(auto, unfolding(crate::specs::Hmac::hmac))]
 pub fn hmac_sha256(alloc: Global, key: &[u8], text: &[u8]) -> Result<[u8; DIGEST_BYTES], AllocError>
     ensures { IfOk result (λ code. code ≡ hmac key.now text.now) }

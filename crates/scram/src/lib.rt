@@ -1,5 +1,5 @@
-//! Passwords by SCRAM-SHA-256, as PostgreSQL has them: what a server keeps of a password, and both sides of an exchange that
-//! proves that each knows it. No socket, no randomness of its own.
+//! Passwords by SCRAM-SHA-256, as PostgreSQL has them (PostgreSQL 15, 55.3.1): what a server keeps of a password, and both sides
+//! of an exchange that proves that each knows it. No socket, no randomness of its own.
 //!
 //! `Verifier` is what a server keeps, `Exchange` the server's side of RFC 5802's messages, and `Login` the same in the bodies of
 //! PostgreSQL's authentication frames; `ClientExchange` is the client's side. `hmac.rt` and `pbkdf2.rt` stand on a given SHA-256.

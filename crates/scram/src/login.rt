@@ -48,7 +48,12 @@ pub enum Reply {
 }
 
 impl Login {
-    /// The answer of a message of the type `p`: a SASLInitialResponse, and then SASLResponses.
+    /// The answer of a message of the type `p`: a SASLInitialResponse, and then SASLResponses (PostgreSQL 15, 55.3).
+    ///
+    /// A body over `MOST_BODY_BYTES` is `ExchangeFault::Password`. A SASLInitialResponse is refused whose mechanism doesn't end
+    /// (`NoMechanism`) or isn't offered (`Mechanism`), whose first message isn't there whole (`Short`) or is followed by
+    /// something (`Trailing`). A first message is refused as by `Exchange::begin`, the last one as by `Exchange::finish`. Or
+    /// `Memory`.
     #[tactic(auto, using(crate::proofs::Failing::fails))]
     pub fn answer(self, alloc: Global, body: &[u8]) -> Result<Reply, ExchangeFault>
         ensures exact { Answers result (answer_to self body.now) }

@@ -7,7 +7,8 @@ ghost use Rattle.scram.specs.Hmac.{hmac};
 use crate::hmac::hmac_sha256;
 use std::alloc::{AllocError, Global};
 
-/// SaltedPassword: the password as the client sends it in, its salt, and how many rounds are taken, one at least.
+/// SaltedPassword: the password as the client sends it in, its salt, and how many rounds are taken, one at least. `AllocError`
+/// where memory is refused.
 #[tactic(auto, using(crate::proofs::Rounds::next_code, crate::proofs::Rounds::next_sum, crate::proofs::Rounds::first_sum), unfolding(crate::specs::Hi::hi))]
 pub fn salted_password(
     alloc: Global,

@@ -28,7 +28,10 @@ pub struct Exchange {
 }
 
 impl Exchange {
-    /// Begins by the client's first message. The server's nonce is to be new and random, printable, and without a comma.
+    /// Begins by the client's first message. The server's nonce is to be new and random, printable, and without a comma. A
+    /// message of another form is `ExchangeFault::Malformed`. One that names another user to act for is
+    /// `AuthorizationIdentity`, one that wants an extension `Extension`, and one whose nonce can't be printed
+    /// `UnprintableNonce`. Or `Memory`.
     #[tactic(auto, using(crate::proofs::Failing::fails))]
     pub fn begin(
         alloc: Global,
@@ -48,7 +51,7 @@ impl Exchange {
         })
     }
 
-    /// The message that asks for a proof: both nonces, the salt and the rounds.
+    /// The message that asks for a proof: both nonces, the salt and the rounds. `AllocError` where memory for it is refused.
     pub fn challenge(&self, alloc: Global) -> Result<Items<u8>, AllocError>
         ensures { IfOk result (λ text. text ≡ challenge self.now) }
     {
@@ -61,8 +64,10 @@ impl Exchange {
         Ok(Items::new(text))
     }
 
-    /// The answer of the client's last message: the server's signature, by which the client knows the server, where the client has
-    /// proved that it knows the password of a known user; else why it hasn't.
+    /// The answer of the client's last message: the server's signature, by which the client knows the server, where the client
+    /// has proved that it knows the password of a known user. A message of another form is `ExchangeFault::Malformed`. One that
+    /// repeats another header is `Binding`, one that repeats other nonces `Nonce`, and one with another proof, or of an unknown
+    /// user, `Password`. Or `Memory`.
     #[tactic(auto, using(crate::proofs::Failing::fails))]
     pub fn finish(&self, alloc: Global, text: &[u8]) -> Result<Items<u8>, ExchangeFault>
         ensures exact { Answers result (verdict self.now text.now) }

@@ -42,7 +42,7 @@ impl ExchangeFault {
         }
     }
 
-    /// What is told beside it, if anything is.
+    /// What is told beside it: of `Malformed` and `Nonce` something is, else None. `AllocError` where memory for it is refused.
     pub fn detail(self, alloc: Global) -> Result<Option<String>, AllocError> {
         match self {
             ExchangeFault::Malformed(form) => Ok(Some(form.detail(alloc)?)),

@@ -7,6 +7,7 @@ use crate::verifier::{SALT_BYTES, Verifier};
 use std::alloc::{AllocError, Global};
 
 /// The line of a user with this password, as `Verifier::of_password` takes it. The name is to have no colon and no line end.
+/// `AllocError` where memory is refused.
 pub fn line_of_user(
     alloc: Global,
     name: &str,

@@ -30,6 +30,7 @@ pub struct Verifier {
 
 impl Verifier {
     /// That of a password, as clients prepare it by SASLprep (RFC 4013), which leaves ASCII as it is; the salt is to be random.
+    /// `AllocError` where memory is refused.
     #[tactic(auto, unfolding(crate::specs::Keys::salted_password))]
     pub fn of_password(
         alloc: Global,
@@ -48,8 +49,9 @@ impl Verifier {
         })
     }
 
-    /// The verifier that the text spells, as PostgreSQL keeps it in `pg_authid`; of 4096 rounds and a salt of 16 bytes, as
-    /// PostgreSQL makes them.
+    /// The verifier that the text spells, as PostgreSQL keeps it in `pg_authid` (PostgreSQL 15, 53.8); of 4096 rounds and a
+    /// salt of 16 bytes, as PostgreSQL makes them. Of another scheme or other rounds it is `VerifierFault::NotServed`, of
+    /// another form `Malformed`. Or `Memory`.
     #[tactic(auto, unfolding(crate::specs::Verifiers::read_verifier))]
     pub fn of_text(alloc: Global, text: &str) -> Result<Verifier, VerifierFault>
         ensures { Reads result (read_verifier text.now) }
@@ -68,7 +70,7 @@ impl Verifier {
         })
     }
 
-    /// Its text, as PostgreSQL keeps it.
+    /// Its text, as PostgreSQL keeps it. `AllocError` where memory for it is refused.
     pub fn text(&self, alloc: Global) -> Result<String, AllocError>
         ensures { IfOk result (λ text. string_bytes text ≡ verifier_text self.now) }
     {

@@ -26,15 +26,16 @@ pub trait Backend {
         ensures told { told self.now (System result.now) self.now }
         ensures short { length result.now < 2 ^ 16 };
 
-    /// Makes a slot; answers its consistent point.
+    /// Makes a slot, and answers its consistent point; or why it makes none, such as `SlotExists` (L3) or `NoSlotPlace` (L4).
     fn create(&mut self, slot: &str) -> Result<u64, BackendFault>
         ensures { told self.old (CreateSlot slot.now result) self.new };
 
+    /// Drops a slot; or answers why it doesn't, such as `SlotMissing` (L1) or `SlotInUse` (L2).
     fn drop_slot(&mut self, slot: &str) -> Result<(), BackendFault>
         ensures { told self.old (DropSlot slot.now result) self.new };
 
-    /// Begins the stream that these options ask for, for the slot, at this position or at a later one that it has
-    /// confirmed.
+    /// Begins the stream that these options ask for, for the slot, at this position or at a later one that it has confirmed. Or
+    /// it answers why none begins, such as `SlotMissing` (L1), `SlotInUse` (L2) or `UnknownPublication` (P1).
     fn start(
         &mut self,
         slot: &str,
@@ -43,17 +44,18 @@ pub trait Backend {
     ) -> Result<(), BackendFault>
         ensures { told self.old (StartStream slot.now position options.now result) self.new };
 
-    /// Which of these names are publications.
+    /// Which of these names are publications; or why that isn't answered, such as `Memory`.
     fn publications(&mut self, names: &Items<Text>) -> Result<Items<Text>, BackendFault>
         ensures told { told self.old (Publications names.now result) self.new }
         ensures short { IfOk result (λ found. AllByRecursion IsShort found) };
 
-    /// The tables of the publications of these names, each once. A name that no publication has adds none.
+    /// The tables of the publications of these names, each once. A name that no publication has adds none. Or it answers why it
+    /// tells none, such as `Memory`.
     fn tables(&mut self, names: &Items<Text>) -> Result<Items<TableName>, BackendFault>
         ensures told { told self.old (Tables names.now result) self.new }
         ensures short { IfOk result (λ tables. AllByRecursion IsShortName tables) };
 
-    /// Drops a slot once nobody holds it; who can't wait, or not for so long, answers that it is held.
+    /// Drops a slot once nobody holds it; who can't wait, or not for so long, answers that it is held (`SlotInUse`, L2).
     fn drop_when_free(&mut self, slot: &str) -> Result<(), BackendFault>
         ensures { told self.old (DropSlot slot.now result) self.new };
 

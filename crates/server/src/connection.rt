@@ -98,7 +98,7 @@ impl Connection {
         }
     }
 
-    /// More has come.
+    /// More has come. `AllocError` where memory for it is refused; nothing of it is kept then.
     pub fn push(&mut self, bytes: &[u8]) -> Result<(), AllocError>
         ensures came { OnOk result (self.new.pending.items ≡ self.old.pending.items ++ bytes.now) }
         ensures err { OnErr result (self.new.pending.items ≡ self.old.pending.items) }
@@ -110,8 +110,8 @@ impl Connection {
     /// Answers one startup or frame of what has come, the next. False: it isn't there whole, or waits for the end of the stream
     /// that stops.
     ///
-    /// H1 is want of memory, and it closes the connection without a word: what stood in `out` stands there, and no more. H2: it
-    /// is closed, and what has come is passed over.
+    /// `Memory` (H1) closes the connection without a word: what stood in `out` stands there, and no more. `Closed` (H2): it is
+    /// closed, and what has come is passed over.
     pub fn answer<D: Backend>(
         &mut self,
         backend: &mut D,
@@ -209,8 +209,8 @@ impl Connection {
 
     /// Answers all that the client has sent up to the end of these bytes.
     ///
-    /// H1 is want of memory, and it closes the connection without a word: `out` has the answers of the turns before, each
-    /// whole. What comes to a closed connection is passed over: in the call that closed it silently, in later ones by H2.
+    /// `Memory` (H1) closes the connection without a word: `out` has the answers of the turns before, each whole. What comes to
+    /// a closed connection is passed over: in the call that closed it silently, in later ones by `Closed` (H2).
     ///
     /// The client of a stream ends it by CopyDone. What comes after that is kept, and answered by the first call after
     /// `stopped`.
@@ -247,7 +247,7 @@ impl Connection {
     /// Ends the stream that stops: all of it has been said. The connection waits for a query again, and the next `take`,
     /// which may bring no bytes, answers what was kept after the CopyDone.
     ///
-    /// H1 is want of memory, and it closes the connection without a word: what stood in `out` stands there, and no more.
+    /// `Memory` (H1) closes the connection without a word: what stood in `out` stands there, and no more.
     pub fn stopped(&mut self, out: &mut BytesMut) -> Result<Phase, ConnFault>
         requires { phase_of self.old.stage ≡ Phase.Stopping }
         ensures ended { IfOk result (λ _. Ended self.old out.old.items self.new out.new.items) }
@@ -260,6 +260,7 @@ impl Connection {
         let stage = mem::replace(&mut self.stage, Stage::Closed);
         if say_ended(self.alloc, out).is_err() {
             out.truncate(start);
+            // Let go by one call, which keeps the proof short.
             drop(stage);
             return Err(ConnFault::Memory);
         }

@@ -57,8 +57,8 @@ fn unless_memory(answer: Result<(), ConnFault>) -> Result<(), AllocError>
     }
 }
 
-/// Holds a whole conversation on a connection that is served so: what the client sends comes in any cuts, and streams that
-/// stop end in between.
+/// Holds a whole conversation on a connection that is served so: what the client sends comes in any cuts, and streams that stop
+/// end in between. `AllocError` where memory is refused: the connection is closed then, and the events after it don't happen.
 pub fn converse<D: Backend>(
     alloc: Global,
     service: Service,
@@ -75,6 +75,7 @@ pub fn converse<D: Backend>(
     for event in events {
         let happened = happen(&mut connection, event, backend, out);
         if let Err(fault) = unless_memory(happened) {
+            // Let go by one call, which keeps the proof short.
             drop(connection);
             return Err(fault);
         }

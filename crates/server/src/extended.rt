@@ -1,4 +1,4 @@
-//! The frames of extended queries and of function calls (PostgreSQL 15, 55.2.3 and 55.2.4), which a session refuses: which one
+//! The frames of extended queries and of function calls (PostgreSQL 15, 55.2.3 and 55.2.5), which a session refuses: which one
 //! stands at the front, and how long it is. What they ask isn't read.
 
 ghost use Rattle.std.specs.Prelude.{◌≡◌, ◌<◌, ◌≤◌, IfOk, IfSome, length, take};

@@ -14,7 +14,7 @@ use pqformat::Text;
 use replcmd::write_position;
 use std::alloc::{AllocError, Global};
 
-/// The most bytes of a name that is repeated: PostgreSQL has no longer ones.
+/// The most bytes of a name that is repeated: PostgreSQL has no longer ones (PostgreSQL 15, 4.1.1).
 pub(crate) const MOST_NAME_BYTES: usize = 63;
 
 /// That what was asked of this slot is refused, and that the next command is waited for.

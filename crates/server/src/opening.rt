@@ -40,7 +40,7 @@ fn asks_for_replication(parameters: &[Parameter]) -> bool
     }
 }
 
-/// The name of the database: that of `database`, or else of `user`, or else none.
+/// The name of the database: that of `database`, or else of `user`, or else none (PostgreSQL 15, 55.7, StartupMessage).
 fn database_of(parameters: &[Parameter]) -> &str
     ensures { result.now
         ≡ first_of (value_of (codes "database") parameters.now)
@@ -68,8 +68,8 @@ fn greet(alloc: Global, service: Service, out: &mut BytesMut) -> Result<(), Allo
 
 /// Answers the startup of a session on a connection that is served so: the database, or that none is served.
 ///
-/// The session must ask for `replication=database`. Other parameters are passed over, and of a repeated name the last
-/// pair counts. Refused, for want of memory: what stood in `out` still stands at its front.
+/// The session must ask for `replication=database` (PostgreSQL 15, 55.4). Other parameters are passed over, and of a repeated
+/// name the last pair counts. Refused, for want of memory: what stood in `out` still stands at its front.
 #[tactic(auto, using(pqformat::proofs::Putting::in_place), unfolding(crate::specs::Opening::opened_database))]
 pub(crate) fn open(
     alloc: Global,

@@ -131,8 +131,8 @@ fn why(is_question: bool, fault: CmdFault) -> Refusal
     }
 }
 
-/// Answers the text of a Query in a session on this database, where questions are not answered, or it is none; whether a stream has
-/// begun, and with it no query is waited for.
+/// Answers the text of a Query (PostgreSQL 15, 55.2.2) in a session on this database, where questions are not answered, or it
+/// is none; whether a stream has begun, and with it no query is waited for.
 ///
 /// A command makes its calls of the backend, each once. A text that is none makes no call: it is refused by the code of its
 /// fault, and the next query is waited for.
@@ -151,6 +151,7 @@ pub(crate) fn reply<D: Backend>(
     match parse_command(alloc, query) {
         Ok(command) => {
             let answered = run(alloc, database, &command, backend, out);
+            // Let go by one call, which keeps the proof short.
             drop(command);
             answered
         }

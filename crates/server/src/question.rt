@@ -32,7 +32,7 @@ pub enum Question {
     DropWhenFree(Text),
 }
 
-/// The question that the text asks, all of it.
+/// The question that the text asks, all of it; None where it asks none. `AllocError` where memory is refused.
 pub fn question_of(alloc: Global, text: &str) -> Result<Option<Question>, AllocError>
     // What is read is asked so, and where nothing is read nothing is asked.
     ensures { IfOk result

@@ -132,6 +132,7 @@ fn is_question(alloc: Global, query: &str) -> Result<bool, AllocError>
 {
     match question_of(alloc, query)? {
         Some(question) => {
+            // Let go by one call, which keeps the proof short.
             drop(question);
             Ok(true)
         }

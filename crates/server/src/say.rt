@@ -44,6 +44,7 @@ pub(crate) fn say(out: &mut BytesMut, frame: Back) -> Result<(), AllocError>
     ensures { Puts result out.old.items out.new.items (sent_frame frame) }
 {
     let written = write_back(&frame, out);
+    // Let go by one call, which keeps the proof short.
     drop(frame);
     written
 }
@@ -105,6 +106,8 @@ pub(crate) fn say_error(
     say(out, Back::ErrorResponse(ErrorResponse { fields }))
 }
 
+/// That a session or a command is refused, in an ErrorResponse. `AllocError` where memory is refused; some of it may have been
+/// added then.
 #[tactic(auto, using(pqformat::proofs::Putting::in_place), unfolding(crate::specs::Said::error_of_refusal))]
 pub fn say_refused(alloc: Global, out: &mut BytesMut, refusal: Refusal) -> Result<(), AllocError>
     ensures { Puts result out.old.items out.new.items (error_of_refusal refusal) }
@@ -113,7 +116,8 @@ pub fn say_refused(alloc: Global, out: &mut BytesMut, refusal: Refusal) -> Resul
     say_error(alloc, out, code, text)
 }
 
-/// That a command is refused, and that the next one is waited for.
+/// That a command is refused, and that the next one is waited for. `AllocError` where memory is refused; some of it may have
+/// been added then.
 #[tactic(auto, using(pqformat::proofs::Putting::in_place))]
 pub fn say_refused_ready(
     alloc: Global,
@@ -159,7 +163,8 @@ pub(crate) fn say_key(out: &mut BytesMut, process: u32) -> Result<(), AllocError
     )
 }
 
-/// The beginning of a session on the connection of this number.
+/// The beginning of a session on the connection of this number (PostgreSQL 15, 55.2.1). `AllocError` where memory is refused;
+/// some of it may have been added then.
 #[tactic(auto, using(pqformat::proofs::Putting::in_place), unfolding(crate::specs::Said::greeting))]
 pub fn say_greeting(alloc: Global, out: &mut BytesMut, number: u32) -> Result<(), AllocError>
     ensures { Puts result out.old.items out.new.items (greeting number) }
@@ -221,7 +226,8 @@ pub(crate) fn say_completed(alloc: Global, out: &mut BytesMut, tag: &str) -> Res
     say(out, Back::CommandComplete(CommandComplete { tag }))
 }
 
-/// The answer of DROP_REPLICATION_SLOT.
+/// The answer of DROP_REPLICATION_SLOT (PostgreSQL 15, 55.4). `AllocError` where memory is refused; some of it may have been
+/// added then.
 #[tactic(auto, using(pqformat::proofs::Putting::in_place), unfolding(crate::specs::Said::answer_to_drop))]
 pub fn say_dropped(
     alloc: Global,
@@ -247,7 +253,7 @@ fn say_copy_done(out: &mut BytesMut) -> Result<(), AllocError>
     say(out, Back::CopyDone)
 }
 
-/// The end of a stream.
+/// The end of a stream (PostgreSQL 15, 55.2.6). `AllocError` where memory is refused; some of it may have been added then.
 #[tactic(auto, using(pqformat::proofs::Putting::in_place), unfolding(crate::specs::Said::end_of_stream))]
 pub fn say_ended(alloc: Global, out: &mut BytesMut) -> Result<(), AllocError>
     ensures { Puts result out.old.items out.new.items end_of_stream }
@@ -311,7 +317,8 @@ fn say_identity_values(
     say_values(out, values)
 }
 
-/// The answer of IDENTIFY_SYSTEM.
+/// The answer of IDENTIFY_SYSTEM (PostgreSQL 15, 55.4). `AllocError` where memory is refused; some of it may have been added
+/// then.
 #[tactic(auto, using(pqformat::proofs::Putting::in_place), unfolding(crate::specs::Said::answer_to_identify))]
 pub fn say_identified(
     alloc: Global,
@@ -364,7 +371,8 @@ fn say_slot(alloc: Global, out: &mut BytesMut, slot: &str, position: u64) -> Res
     say_ready(out)
 }
 
-/// The answer of CREATE_REPLICATION_SLOT.
+/// The answer of CREATE_REPLICATION_SLOT (PostgreSQL 15, 55.4). `AllocError` where memory is refused; some of it may have been
+/// added then.
 #[tactic(auto, using(pqformat::proofs::Putting::in_place), unfolding(crate::specs::Said::answer_to_create))]
 pub fn say_created(
     alloc: Global,

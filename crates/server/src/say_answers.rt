@@ -18,7 +18,8 @@ use bytes::BytesMut;
 use pqformat::{Items, Text};
 use std::alloc::{AllocError, Global};
 
-/// The beginning of a session that may ask questions.
+/// The beginning of a session that may ask questions. `AllocError` where memory is refused; some of it may have been added
+/// then.
 #[tactic(auto, using(pqformat::proofs::Putting::in_place), unfolding(crate::specs::Said::other_greeting))]
 pub fn say_other_greeting(alloc: Global, out: &mut BytesMut, number: u32) -> Result<(), AllocError>
     ensures { Puts result out.old.items out.new.items (other_greeting number) }
@@ -110,7 +111,7 @@ fn say_selected(alloc: Global, out: &mut BytesMut, count: u64) -> Result<(), All
     say_ready(out)
 }
 
-/// That the search path is empty.
+/// That the search path is empty. `AllocError` where memory is refused; some of it may have been added then.
 #[tactic(auto, using(pqformat::proofs::Putting::in_place), unfolding(crate::specs::Answers::path_set))]
 pub fn say_path_set(alloc: Global, out: &mut BytesMut) -> Result<(), AllocError>
     ensures { Puts result out.old.items out.new.items path_set }
@@ -120,7 +121,8 @@ pub fn say_path_set(alloc: Global, out: &mut BytesMut) -> Result<(), AllocError>
     say_selected(alloc, out, 1)
 }
 
-/// The mode of a directory that its owner alone may read.
+/// The mode of a directory that its owner alone may read. `AllocError` where memory is refused; some of it may have been added
+/// then.
 #[tactic(auto, using(pqformat::proofs::Putting::in_place), unfolding(crate::specs::Answers::mode_shown))]
 pub fn say_mode(alloc: Global, out: &mut BytesMut) -> Result<(), AllocError>
     ensures { Puts result out.old.items out.new.items mode_shown }
@@ -131,7 +133,7 @@ pub fn say_mode(alloc: Global, out: &mut BytesMut) -> Result<(), AllocError>
     say_ready(out)
 }
 
-/// The publications that were found.
+/// The publications that were found. `AllocError` where memory is refused; some of it may have been added then.
 #[tactic(auto, using(pqformat::proofs::Putting::in_place), unfolding(crate::specs::Answers::publications_told))]
 pub fn say_publications(
     alloc: Global,
@@ -151,7 +153,7 @@ pub fn say_publications(
     }
 }
 
-/// The tables that were found.
+/// The tables that were found. `AllocError` where memory is refused; some of it may have been added then.
 #[tactic(auto, using(pqformat::proofs::Putting::in_place), unfolding(crate::specs::Answers::tables_told))]
 pub fn say_found_tables(
     alloc: Global,

@@ -151,6 +151,7 @@ pub(crate) fn turn_session<D: Backend>(
         }),
         Ok(Some((front, count))) => {
             let answered = answer_front(alloc, service.dialect, database, &front, backend, out);
+            // Let go before the way out, which keeps the proof short.
             drop(front);
             let stage = answered?;
             Ok(Turned { stage, count })

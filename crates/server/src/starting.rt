@@ -12,7 +12,8 @@ use frames::{Back, CopyBothResponse};
 use pqformat::{Items, Text};
 use std::alloc::{AllocError, Global};
 
-/// That a stream of these publications begins from the slot, or why none does.
+/// That a stream of these publications begins from the slot, or why none does (PostgreSQL 15, 55.4). `AllocError` where memory
+/// is refused; some of it may have been added then.
 #[tactic(auto, using(pqformat::proofs::Putting::in_place), unfolding(crate::specs::Said::answer_to_start, pqformat::specs::Fields::int32, pqformat::specs::Fields::int16))]
 pub fn say_started(
     alloc: Global,

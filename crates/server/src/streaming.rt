@@ -72,7 +72,7 @@ fn answer_in_stream<D: Backend>(
     }
 }
 
-/// The turn of a client to which a stream runs.
+/// The turn of a client to which a stream runs (PostgreSQL 15, 55.2.6 and 55.4).
 pub(crate) fn turn_stream<D: Backend>(
     alloc: Global,
     database: Database,
@@ -91,6 +91,7 @@ pub(crate) fn turn_stream<D: Backend>(
         }),
         Ok(Some((front, count))) => {
             let answered = answer_in_stream(alloc, database, &front, backend, out);
+            // Let go before the way out, which keeps the proof short.
             drop(front);
             let stage = answered?;
             Ok(Turned { stage, count })

@@ -42,7 +42,7 @@ fn open_session(
     }
 }
 
-/// Declines encryption.
+/// Declines encryption (PostgreSQL 15, 55.2.10 and 55.2.11).
 #[tactic(auto, using(pqformat::proofs::Putting::in_place))]
 fn decline(out: &mut BytesMut) -> Result<(), AllocError>
     ensures { Puts result out.old.items out.new.items (codes "N") }

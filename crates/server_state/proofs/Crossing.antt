@@ -17,12 +17,13 @@ use Rattle.slots.specs.declared.rule.SlotName as slot_name
 use Rattle.slots.proofs.table.SlotTable.TheSendSync as slots
 use Rattle.txlog.proofs.publisher.Publisher.TheSendSync as publisher
 use Rattle.connections.proofs.Crossing.{latch_sync, monitor_sync, sockets_sync}
-use Rattle.connections.proofs.names.Names.TheSendSync as names
 use Rattle.authentication.proofs.users.Users.TheSendSync as users
 use Rattle.server_state.specs.contracts.server_state.ServerState as server_state
 use Rattle.server_state.specs.contracts.system.SystemName as system
 use Rattle.server_state.proofs.settings.HubSettings.TheSendSync as settings
 use Rattle.server_state.proofs.commit_notice.CommitNotice.TheSendSync as notice
+use Rattle.server_state.proofs.log_times.LogTimes.TheSendSync as times
+use Rattle.server_state.proofs.owned_names.OwnedNames.TheSendSync as names
 use Rattle.server_state.proofs.pool.Pool.TheSendSync as pool
 
 -- ---- publications
@@ -71,9 +72,9 @@ module _ (L : RattleType) (s : slot_name.Ghosts L.Denot) (l : log_name.Ghosts L.
                   (
                     search (notice.the_send, heap.crosses, sendable) depth 10,
                     (
-                      search (latch_sync, heap.crosses, sendable) depth 10,
+                      search (times.the_send, heap.crosses, sendable) depth 10,
                       (
-                        search (heap.crosses, sendable) depth 10,
+                        search (latch_sync, heap.crosses, sendable) depth 10,
                         (
                           search (heap.crosses, sendable) depth 10,
                           (
@@ -81,8 +82,11 @@ module _ (L : RattleType) (s : slot_name.Ghosts L.Denot) (l : log_name.Ghosts L.
                             (
                               search (heap.crosses, sendable) depth 10,
                               (
-                                search (monitor_sync, heap.crosses, sendable) depth 10,
-                                (sockets_sync, (search (heap.crosses, sendable) depth 10, (sockets_sync, (search (reader.the_send L l, heap.crosses, sendable) depth 10, (search (users.the_send, heap.crosses, sendable) depth 20, (search (heap.crosses, sendable) depth 10, (search (heap.crosses, sendable) depth 10, tt))))))),
+                                search (heap.crosses, sendable) depth 10,
+                                (
+                                  search (monitor_sync, heap.crosses, sendable) depth 10,
+                                  (sockets_sync, (search (heap.crosses, sendable) depth 10, (sockets_sync, (search (reader.the_send L l, heap.crosses, sendable) depth 10, (search (users.the_send, heap.crosses, sendable) depth 20, (search (heap.crosses, sendable) depth 10, (search (heap.crosses, sendable) depth 10, tt))))))),
+                                ),
                               ),
                             ),
                           ),

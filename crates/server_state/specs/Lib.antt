@@ -1,4 +1,6 @@
 pub mod Ending
+pub mod LogTimes
 pub mod Notices
+pub mod Owners
 pub mod Published
 pub mod Refusals

@@ -4,7 +4,6 @@ ghost use Rattle.std.specs.Prelude.{◌<◌, IfSome};
 ghost use Rattle.slots.specs.declared.table.TheConstants.{END_OF_PLACES};
 
 use crate::pool::ReaderSeat;
-use crate::refusals::of_slot;
 use crate::server_state::ServerState;
 use connections::{SlotMonitor, has_gone};
 use pqformat::Text;
@@ -54,9 +53,9 @@ impl<L: LogName + SlotName> ServerState<L> {
         end: u64,
     ) -> Result<u64, BackendFault> {
         let mut names = self.names.lock(rt);
-        names.create(&self.slots, name, end).map_err(of_slot)?;
+        names.create(&self.slots, name, owner, end)?;
         if let Some(monitor) = self.monitor_at(names.place_of(name)) {
-            monitor.open(rt, Text::copy_of(self.alloc, name).ok(), owner, end);
+            monitor.open(rt, Text::copy_of(self.alloc, name).ok(), end);
         }
         drop(names);
         Ok(end)
@@ -70,12 +69,8 @@ impl<L: LogName + SlotName> ServerState<L> {
         user: Option<&str>,
     ) -> Result<(), BackendFault> {
         let mut names = self.names.lock(rt);
-        let place = names.place_of(name);
-        if !self.is_open_to(rt, place, user) {
-            return Err(BackendFault::NotOwner);
-        }
-        names.drop_slot(&self.slots, name).map_err(of_slot)?;
-        if let Some(monitor) = self.monitor_at(place) {
+        let place = names.drop_slot(&self.slots, name, user)?;
+        if let Some(monitor) = self.monitor_at(Some(place)) {
             monitor.remove(rt);
         }
         drop(names);
@@ -131,12 +126,9 @@ impl<L: LogName + SlotName> ServerState<L> {
         }
     }
 
-    /// Whether this user may use the slot at a place, if one is there.
-    pub fn is_open_to<R: Wait>(&self, rt: &R, place: Option<usize>, user: Option<&str>) -> bool {
-        match self.monitor_at(place) {
-            Some(monitor) => monitor.is_open_to(rt, user),
-            None => true,
-        }
+    /// Whether this user, if any, may use the slot of this name, if there is one.
+    pub fn is_open_to<R: Wait>(&self, rt: &R, name: &str, user: Option<&str>) -> bool {
+        self.names.lock(rt).may_use(name, user)
     }
 
     /// Whether a stream of the slot at this place found its chunks full.

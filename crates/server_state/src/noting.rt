@@ -9,6 +9,7 @@ use crate::spreading::Unheard;
 use shared_log::LogName;
 use slots::SlotName;
 use std::sync::{MutexGuard, Wait};
+use std::time::Clock;
 use txlog::{Publisher, SessionFault};
 
 impl<L: LogName + SlotName> ServerState<L> {
@@ -16,7 +17,12 @@ impl<L: LogName + SlotName> ServerState<L> {
     /// order, and then nobody hears of it. Streams that ask for messages send it at once, whatever transactions do.
     ///
     /// It waits until no `Transaction` is in progress, so a thread that has one ends it first.
-    pub fn note<R: Wait>(&self, rt: &R, prefix: &str, content: &[u8]) -> Result<u64, SessionFault> {
+    pub fn note<R: Wait + Clock>(
+        &self,
+        rt: &R,
+        prefix: &str,
+        content: &[u8],
+    ) -> Result<u64, SessionFault> {
         let mut publisher = self.publisher.lock(rt);
         self.make_room(rt, &mut *publisher);
         let noted = noted(rt, &mut *publisher, prefix, content);

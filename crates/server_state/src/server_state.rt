@@ -7,13 +7,15 @@ use crate::at_once::AtOnce;
 use crate::commit_notice::CommitNotice;
 use crate::fault::HubFault;
 use crate::hub_builder::HubBuilder;
+use crate::log_times::LogTimes;
+use crate::owned_names::OwnedNames;
 use crate::pool::Pool;
 use crate::settings::HubSettings;
 use crate::shared::{Places, Shared};
 use crate::spreading::{Unheard, Woken};
 use crate::system::SystemName;
 use authentication::Users;
-use connections::{ConnectionMailbox, Latch, Names, SlotMonitor, Sockets};
+use connections::{ConnectionMailbox, Latch, SlotMonitor, Sockets};
 use publication::Publications;
 use server::{Dialect, Service};
 use shared_log::{LogName, LogReader};
@@ -35,8 +37,10 @@ pub struct ServerState<L: LogName + SlotName> {
     pub publisher: Mutex<Publisher<L>>,
     pub slots: SlotTable<L>,
     pub(crate) pool: Mutex<Pool<L>>,
-    pub(crate) names: Mutex<Names<L>>,
+    pub(crate) names: Mutex<OwnedNames<L>>,
     pub notice: Mutex<CommitNotice<L>>,
+    /// When the log came past which position.
+    pub(crate) times: Mutex<LogTimes>,
     /// One for each stream that may run.
     pub latches: Vec<Latch>,
     /// How many connections are served.
@@ -121,6 +125,7 @@ impl<L: LogName + SlotName> ServerState<L> {
             pool: Mutex::new(pool),
             names: Mutex::new(names),
             notice: Mutex::new(CommitNotice::new()),
+            times: Mutex::new(LogTimes::new(alloc)),
             latches,
             served: AtomicU32::new(0),
             streams_begun: AtomicU64::new(0),
@@ -149,6 +154,7 @@ impl<L: LogName + SlotName> ServerState<L> {
             pool: _,
             names: _,
             notice: _,
+            times: _,
             latches: _,
             served: _,
             streams_begun: _,
@@ -220,7 +226,7 @@ impl<L: LogName + SlotName> ServerState<L> {
     // ---- what threads wait for
 
     /// A commit leaves its receipt: streams read on up to it, at least.
-    pub fn tell<R: Wait>(&self, rt: &R, receipt: Receipt<L>) -> Woken
+    pub fn tell<R: Wait + Clock>(&self, rt: &R, receipt: Receipt<L>) -> Woken
         ensures { IsWoken (vec_len self.now.latches) receipt.end result }
     {
         self.spread(rt, Unheard::of_commit(receipt))
@@ -228,7 +234,7 @@ impl<L: LogName + SlotName> ServerState<L> {
 
     /// A note or an abort leaves where the log ended right after it, and no receipt: streams read on up to there, at least, so that
     /// their clients can confirm it.
-    pub fn tell_end<R: Wait>(&self, rt: &R, end: u64) -> Woken
+    pub fn tell_end<R: Wait + Clock>(&self, rt: &R, end: u64) -> Woken
         ensures { IsWoken (vec_len self.now.latches) end result }
     {
         self.spread(rt, Unheard::of_end(end))

@@ -4,6 +4,7 @@ ghost use Rattle.std.specs.Prelude.{◌≡◌};
 
 use crate::at_once::AtOnce;
 use crate::fault::HubFault;
+use crate::owned_names::OwnedNames;
 use crate::pool::Pool;
 use connections::{Latch, Names, SlotMonitor};
 use shared_log::{LogName, LogReader};
@@ -16,7 +17,7 @@ use txlog::{Opened, Publisher};
 #[derive(Drop)]
 pub(crate) struct Places<L: SlotName> {
     pub table: SlotTable<L>,
-    pub names: Names<L>,
+    pub names: OwnedNames<L>,
     pub latches: Vec<Latch>,
     pub monitors: Vec<SlotMonitor>,
 }
@@ -113,7 +114,7 @@ fn seats_of<L: SlotName>(
     alloc: Global,
     slots: OpenedSlots,
     at_once: AtOnce,
-) -> Option<(SlotTable<L>, Names<L>, Vec<SlotSeat<L>>)>
+) -> Option<(SlotTable<L>, OwnedNames<L>, Vec<SlotSeat<L>>)>
     requires { slots.first.table_id ≡ L.table }
 {
     let Ok((table, mut seats)) = slots.open::<L>(at_once.streams + 1) else {
@@ -134,9 +135,10 @@ fn names_of<L: SlotName>(
     alloc: Global,
     seats: &mut Vec<SlotSeat<L>>,
     slots: usize,
-) -> Option<Names<L>> {
+) -> Option<OwnedNames<L>> {
     let seat = seats.pop()?;
-    Names::new(alloc, seat, slots).ok()
+    let names = Names::new(alloc, seat, slots).ok()?;
+    Some(OwnedNames::of(alloc, names))
 }
 
 fn latches_of(alloc: Global, streams: usize) -> Result<Vec<Latch>, AllocError> {

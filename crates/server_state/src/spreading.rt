@@ -5,11 +5,12 @@ ghost use Rattle.server_state.specs.Notices.{IsWoken, greatest, news_of_commit, 
 
 use crate::commit_notice::CommitNotice;
 use crate::server_state::ServerState;
-use connections::Latch;
+use connections::{Latch, moment};
 use shared_log::LogName;
 use slots::SlotName;
 use std::marker::Model;
 use std::sync::Wait;
+use std::time::Clock;
 use txlog::Receipt;
 
 /// What was written that no stream was told of: where the log ends after it, and the receipt of a commit. It isn't `Drop`:
@@ -68,9 +69,12 @@ impl Woken {
 
 impl<L: LogName + SlotName> ServerState<L> {
     /// Streams read on after what was written, at least: each latch is told.
-    pub(crate) fn spread<R: Wait>(&self, rt: &R, unheard: Unheard<L>) -> Woken
+    pub(crate) fn spread<R: Wait + Clock>(&self, rt: &R, unheard: Unheard<L>) -> Woken
         ensures { IsWoken (vec_len self.now.latches) unheard.end result }
     {
+        if let Some(now) = moment(rt) {
+            self.times.lock(rt).note(unheard.end, now);
+        }
         let mut notice = self.notice.lock(rt);
         let end = hear(&mut *notice, unheard);
         drop(notice);

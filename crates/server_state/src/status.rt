@@ -1,7 +1,7 @@
 //! What runs, for whoever looks.
 
 use crate::server_state::ServerState;
-use connections::{SlotKeeping, SlotSnapshot};
+use connections::{SlotKeeping, SlotSnapshot, moment};
 use pqformat::Text;
 use shared_log::LogName;
 use slots::SlotName;
@@ -47,6 +47,10 @@ pub struct SlotStatus {
     pub free_chunks: usize,
     /// How long ago its client's last status came.
     pub silent_for: Option<Duration>,
+    /// How many microseconds ago the log came past what its client has confirmed: none where it didn't.
+    pub behind_for: u64,
+    /// How many microseconds its client takes to confirm what was sent to it, where that was measured.
+    pub flush_lag: Option<u64>,
     /// How many records of the log are kept for it.
     pub kept: usize,
     /// Whether it held more than it may, and was given up.
@@ -84,15 +88,32 @@ impl<L: LogName + SlotName> ServerState<L> {
         rt: &R,
         count: usize,
     ) -> Result<Vec<SlotStatus>, AllocError> {
-        let now = rt.monotonic().ok();
         let mut slots = Vec::new(self.alloc);
         for monitor in &self.monitors {
             if let Some(known) = monitor.look(rt, self.alloc)? {
                 let kept = self.kept_for(rt, &known, count);
-                slots.push(status_of(known, now, kept))?;
+                let times = self.times_of(rt, &known);
+                slots.push(status_of(known, times, kept))?;
             }
         }
         Ok(slots)
+    }
+
+    /// What the clock tells of a slot.
+    fn times_of<R: Wait + Clock>(&self, rt: &R, known: &SlotSnapshot) -> SlotTimes {
+        let past = self.times.lock(rt).past(known.confirmed);
+        // Read after the mark, which therefore lies before it.
+        SlotTimes {
+            silent_for: silence(rt.monotonic().ok(), known.heard),
+            behind_for: match (moment(rt), past) {
+                (Some(now), Some(past)) => now.saturating_sub(past),
+                _ => 0,
+            },
+            flush_lag: match moment(rt) {
+                Some(now) => known.lag.told(now),
+                None => None,
+            },
+        }
     }
 
     /// How many of so many records are kept for a slot.
@@ -120,11 +141,23 @@ struct LogSize {
     kept: usize,
 }
 
-fn status_of(known: SlotSnapshot, now: Option<Duration>, kept: usize) -> SlotStatus {
-    let silent_for = match (now, known.heard) {
+/// What the clock tells of a slot at one moment.
+#[derive(Clone, Copy)]
+struct SlotTimes {
+    silent_for: Option<Duration>,
+    behind_for: u64,
+    flush_lag: Option<u64>,
+}
+
+/// How long ago something was heard.
+fn silence(now: Option<Duration>, heard: Option<Duration>) -> Option<Duration> {
+    match (now, heard) {
         (Some(now), Some(heard)) => Some(now.saturating_sub(heard)),
         _ => None,
-    };
+    }
+}
+
+fn status_of(known: SlotSnapshot, times: SlotTimes, kept: usize) -> SlotStatus {
     SlotStatus {
         name: known.name,
         confirmed: known.confirmed,
@@ -134,7 +167,9 @@ fn status_of(known: SlotSnapshot, now: Option<Duration>, kept: usize) -> SlotSta
         sent: known.sent,
         transactions: known.transactions,
         free_chunks: known.free_chunks,
-        silent_for,
+        silent_for: times.silent_for,
+        behind_for: times.behind_for,
+        flush_lag: times.flush_lag,
         kept,
         is_lost: known.keeping == SlotKeeping::Lost,
     }

@@ -13,6 +13,7 @@ use shared_log::LogName;
 use slots::SlotName;
 use std::marker::Model;
 use std::sync::{MutexGuard, Wait};
+use std::time::Clock;
 use tables::{Change, Row};
 use txlog::{Publisher, SessionFault, Tx};
 
@@ -194,7 +195,9 @@ impl<'h, L: LogName + SlotName, R: Wait> Transaction<'h, L, R> {
             self.publisher.rollback_to(self.rt, &mut self.tx, depth)
         }
     }
+}
 
+impl<'h, L: LogName + SlotName, R: Wait + Clock> Transaction<'h, L, R> {
     /// Ends the transaction with what came of its work. At `Ok` it commits at this time, in microseconds since 2000-01-01, and
     /// the streams read on after it; at `Err` it is aborted, and nothing of it stands. A commit that is refused is an abort. Where
     /// memory is refused for that too, the error is `Unended`, whatever the work answered.

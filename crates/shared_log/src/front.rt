@@ -1,6 +1,6 @@
 //! What was seen of a history.
 
-ghost use Rattle.std.specs.Prelude.{◌≡◌, ◌+◌, ◌<◌, ◌≤◌, ◌^◌, ◌++◌, ◌∷◌, [], length, false, true, MatchBool};
+ghost use Rattle.std.specs.Prelude.{◌≡◌, ◌+◌, ◌<◌, ◌≤◌, ◌==◌, ◌^◌, ◌++◌, ◌∷◌, [], None, length, false, true, MatchBool};
 ghost use mathlib.Core.List.{IsPrefix};
 ghost use Rattle.shared_log.specs.Book.{IsLonger};
 ghost use Rattle.shared_log.specs.Fronts.{ends_confirmed, settled_records, shown_records};
@@ -77,17 +77,8 @@ impl<L: LogName> Front<L> {
         let mut offer: Offer<Entry, u64, Law, Nothing> = self
             .seen
             .plain::<Nothing, Record, Add>(about);
-        let mut pen = self.seen.no_pen();
         let count = self.count;
-        let found = history
-            .head
-            .compare_exchange::<Add, Nothing>(
-                count,
-                count + 1,
-                &mut self.seen,
-                &mut offer,
-                &mut pen,
-            );
+        let found = exchange(history, count, &mut self.seen, &mut offer);
         self.count = if found == count { count + 1 } else { found };
         found == count
     }
@@ -101,17 +92,8 @@ impl<L: LogName> Front<L> {
         let mut offer: Offer<Entry, u64, Law, Nothing> = self
             .seen
             .plain::<Nothing, (), Confirm>(&());
-        let mut pen = self.seen.no_pen();
         let count = self.count;
-        let found = history
-            .head
-            .compare_exchange::<Add, Nothing>(
-                count,
-                count + 1,
-                &mut self.seen,
-                &mut offer,
-                &mut pen,
-            );
+        let found = exchange(history, count, &mut self.seen, &mut offer);
         self.count = if found == count { count + 1 } else { found };
         found == count
     }
@@ -132,4 +114,27 @@ impl<L: LogName> Front<L> {
             Some(before) => before <= mark.count,
         }
     }
+}
+
+/// Adds what an offer asks for after all that was seen, where the history is no longer than that, and answers how long it was.
+fn exchange<L: LogName>(
+    history: &History<L>,
+    count: u64,
+    seen: &mut Seen<Entry, u64, Law>,
+    offer: &mut Offer<Entry, u64, Law, Nothing>,
+) -> u64
+    requires room { count < 2 ^ 62 }
+    requires counted { length seen.old.log ≡ count }
+    requires book { seen.old.book ≡ L.book }
+    requires names { offer.old.names ≡ seen.old.names }
+    requires plain { offer.old.state ≡ None }
+    ensures added { MatchBool (result == count)
+        (seen.new.log ≡ seen.old.log ++ offer.old.ask ∷ []) (length seen.new.log ≡ result) }
+    ensures grows { IsPrefix seen.old.log seen.new.log }
+    ensures book { seen.new.book ≡ seen.old.book }
+{
+    let mut pen = seen.no_pen();
+    history
+        .head
+        .compare_exchange::<Add, Nothing>(count, count + 1, seen, offer, &mut pen)
 }

@@ -23,6 +23,7 @@ pub(crate) struct Openings {
 }
 
 impl Openings {
+    /// No transaction, with room for some. `AllocError` where memory for it is refused.
     pub fn new(alloc: Global) -> Result<Self, AllocError>
         ensures { IfOk result (λ openings. openings.items.items ≡ []) }
     {
@@ -31,7 +32,7 @@ impl Openings {
         })
     }
 
-    /// Room for one more. Room that there was stays.
+    /// Room for one more. Room that there was stays. `AllocError` where memory is refused.
     pub fn reserve(&mut self) -> Result<(), AllocError>
         ensures same { self.new.items.items ≡ self.old.items.items }
         ensures room { OnOk result (vec_len self.new.items < vec_capacity self.new.items) }

@@ -35,8 +35,9 @@ pub struct LogReader<L: LogName> {
 impl<L: LogName> LogReader<L> {
     ghost use Rattle.shared_log.specs.Readers.{HasSeen, edge_of, seen_of};
 
-    /// Up to `max` records from the reader's place on, and moves the place past them. E1 where the log lets no reader in, E2 for
-    /// memory, E3 where the place stands before the records that lie in memory, which begin ever further on.
+    /// Up to `max` records from the reader's place on, and moves the place past them. `NoEntry` (E1) where the log lets no
+    /// reader in, `Stale` (E1) where it lacks what was learnt of, `Memory` (E2), and `Removed` (E3) where the place stands
+    /// before the records that lie in memory, which begin ever further on. The place stays then.
     pub fn fetch(&mut self, alloc: Global, max: usize) -> Result<Vec<Arc<Record>>, ReadFault>
         ensures grows { IsPrefix (seen_of self.old) (seen_of self.new) }
         ensures told { self.new.told ≡ self.old.told }
@@ -82,6 +83,34 @@ impl<L: LogName> LogReader<L> {
         self.place = place;
     }
 
+    /// What it is made of, since the log is entered with the reader alone.
+    pub(crate) fn into_parts(self) -> (Reader<LogCopy, View, Published<L>>, usize, Front<L>)
+        ensures parts { result ≡ (self.reader, self.place, self.told) }
+        ensures ends { ends_confirmed result.2 ≡ true }
+    {
+        let LogReader {
+            reader,
+            place,
+            told,
+        } = self;
+        (reader, place, told)
+    }
+
+    pub(crate) fn of(
+        reader: Reader<LogCopy, View, Published<L>>,
+        place: usize,
+        told: Front<L>,
+    ) -> Self
+        requires ends { ends_confirmed told ≡ true }
+        ensures parts { (result.reader ≡ reader) × (result.place ≡ place) × (result.told ≡ told) }
+    {
+        LogReader {
+            reader,
+            place,
+            told,
+        }
+    }
+
     fn fetched(self, alloc: Global, max: usize) -> (Self, Result<Vec<Arc<Record>>, ReadFault>)
         ensures grows { IsPrefix (seen_of self) (seen_of result.0) }
         ensures told { result.0.told ≡ self.told }
@@ -97,30 +126,18 @@ impl<L: LogName> LogReader<L> {
         ensures from { OnOk result.1 (edge_of result.0 ≤ self.place) }
         ensures removed { result.1 ≡ Err ReadFault.Removed → self.place < edge_of result.0 }
     {
-        let LogReader {
-            reader,
-            place,
-            told,
-        } = self;
+        // Entering takes the reader itself, which is put back on each way out.
+        let (reader, place, told) = self.into_parts();
         match reader.enter_as::<Sees<L>>() {
             Err(reader) => {
-                let same = LogReader {
-                    reader,
-                    place,
-                    told,
-                };
-                return (same, Err(ReadFault::NoEntry));
+                return (LogReader::of(reader, place, told), Err(ReadFault::NoEntry));
             }
             Ok(reading) => {
                 let copy = reading.get();
                 let is_there = told.is_in(&copy.mark);
                 let got = part_of(alloc, copy, place, max);
                 let reader = reading.leave();
-                let mut left = LogReader {
-                    reader,
-                    place,
-                    told,
-                };
+                let mut left = LogReader::of(reader, place, told);
                 if !is_there {
                     return (left, Err(ReadFault::Stale));
                 }

@@ -21,8 +21,9 @@ impl<L: LogName> LogReader<L> {
     ghost use Rattle.shared_log.specs.Readers.{HasSeen, edge_of, seen_of};
 
     /// Goes to the place from which a stream reads that starts at this position, and answers the position there. Of the log
-    /// that it then sees the first `limit` records count. E1 where the log lets no reader in, E3 where the stream may need records
-    /// that were given back: the place stays. It takes no memory and waits for nobody.
+    /// that it then sees the first `limit` records count. `NoEntry` (E1) where the log lets no reader in, `Stale` (E1) where it
+    /// lacks what was learnt of, `Removed` (E3) where the stream may need records that were given back: the place stays. It
+    /// takes no memory and waits for nobody.
     pub fn resume(&mut self, start: u64, limit: usize) -> Result<u64, ReadFault>
         ensures grows { IsPrefix (seen_of self.old) (seen_of self.new) }
         ensures told { self.new.told ≡ self.old.told }
@@ -64,19 +65,11 @@ impl<L: LogName> LogReader<L> {
         ensures removed { result.1 ≡ Err ReadFault.Removed →
             NeedsRemoved start limit (edge_of result.0) (seen_of result.0) }
     {
-        let LogReader {
-            reader,
-            place,
-            told,
-        } = self;
+        // Entering takes the reader itself, which is put back on each way out.
+        let (reader, place, told) = self.into_parts();
         match reader.enter_as::<Sees<L>>() {
             Err(reader) => {
-                let same = LogReader {
-                    reader,
-                    place,
-                    told,
-                };
-                return (same, Err(ReadFault::NoEntry));
+                return (LogReader::of(reader, place, told), Err(ReadFault::NoEntry));
             }
             Ok(reading) => {
                 let copy = reading.get();
@@ -84,29 +77,14 @@ impl<L: LogName> LogReader<L> {
                 let found = restart_of(copy, start, limit);
                 let reader = reading.leave();
                 if !is_there {
-                    let same = LogReader {
-                        reader,
-                        place,
-                        told,
-                    };
-                    return (same, Err(ReadFault::Stale));
+                    return (LogReader::of(reader, place, told), Err(ReadFault::Stale));
                 }
                 match found {
                     Some((first, position)) => {
-                        let resumed = LogReader {
-                            reader,
-                            place: first,
-                            told,
-                        };
-                        return (resumed, Ok(position));
+                        return (LogReader::of(reader, first, told), Ok(position));
                     }
                     None => {
-                        let same = LogReader {
-                            reader,
-                            place,
-                            told,
-                        };
-                        return (same, Err(ReadFault::Removed));
+                        return (LogReader::of(reader, place, told), Err(ReadFault::Removed));
                     }
                 }
             }

@@ -60,7 +60,8 @@ impl<L: LogName> Model for LogWriter<L> {
 impl<L: LogName> LogWriter<L> {
     ghost use Rattle.shared_log.specs.Readers.{seen_of};
 
-    /// An empty log with room in memory for so many records, and as many readers. Where memory is refused, nothing is left of it.
+    /// An empty log with room in memory for so many records, and as many readers. Where memory is refused, nothing is left of
+    /// it. `AllocError` is answered then.
     pub fn open<R: Wait>(
         rt: &R,
         alloc: Global,
@@ -87,6 +88,7 @@ impl<L: LogName> LogWriter<L> {
                 Ok((log, made))
             }
             Err(fault) => {
+                // Let go by one call, which keeps the proof short.
                 drop(state);
                 Err(fault)
             }
@@ -147,8 +149,8 @@ impl<L: LogName> LogWriter<L> {
         drop(writer.take(rt));
     }
 
-    /// Adds a record of the transaction `top` at the end, or, where memory is refused, nothing. It waits for readers that are in an
-    /// older copy.
+    /// Adds a record of the transaction `top` at the end. It waits for readers that are in an older copy. `AllocError` where
+    /// memory is refused, or the history is as long as it may become; nothing is added then.
     pub fn push<R: Wait>(&mut self, rt: &R, top: u32, body: Body) -> Result<Receipt<L>, AllocError>
         requires fits { end_of FIRST_POSITION self.old.records + size_of body < 2 ^ 64 }
         requires good { IsWellFormedLog
@@ -168,7 +170,8 @@ impl<L: LogName> LogWriter<L> {
         })
     }
 
-    /// Adds a note at the end, or, where memory is refused, nothing. It waits for readers that are in an older copy.
+    /// Adds a note at the end. It waits for readers that are in an older copy. `AllocError` where memory is refused, or the
+    /// history is as long as it may become; nothing is added then.
     pub fn push_note<R: Wait>(
         &mut self,
         rt: &R,
@@ -244,6 +247,7 @@ impl<L: LogName> LogWriter<L> {
         ensures err { OnErr result.1 (result.0.records ≡ self.records) }
         ensures given { result.0.given ≡ self.given }
     {
+        // Publishing takes the writer itself, so the log is taken apart and put together again.
         let LogWriter {
             mut writer,
             mut state,

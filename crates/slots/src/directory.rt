@@ -27,7 +27,7 @@ impl Directory {
         }
     }
 
-    /// The place of this name. It takes no memory.
+    /// The place of this name; None where there is no such name. It takes no memory.
     pub fn find(&self, name: &str) -> Option<usize>
         ensures { result ≡ place_of self.now name.now }
     {
@@ -41,7 +41,7 @@ impl Directory {
         self.places.len()
     }
 
-    /// Gives a new name its place. A name that is there is L3.
+    /// Gives a new name its place. `Exists` (L3) where the name is there, `Memory` (L5) where memory for it is refused.
     pub fn add(&mut self, name: &str, place: usize) -> Result<(), SlotFault>
         ensures new { OnOk result (place_of self.old name.now ≡ None) }
         ensures ok { OnOk result (ChangesOnly self.old self.new name.now (Some place)) }
@@ -57,7 +57,7 @@ impl Directory {
         Ok(())
     }
 
-    /// Forgets this name, and answers its place. It takes no memory.
+    /// Forgets this name, and answers its place; None where there is no such name. It takes no memory.
     pub fn remove(&mut self, name: &str) -> Option<usize>
         ensures place { result ≡ place_of self.old name.now }
         ensures others { ChangesOnly self.old self.new name.now None }

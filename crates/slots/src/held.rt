@@ -39,7 +39,7 @@ impl<L: SlotName> Model for HeldSlots<L> {
 }
 
 impl<L: SlotName> HeldSlots<L> {
-    /// No slots, in a new table.
+    /// No slots, in a new table. `AllocError` where memory is refused.
     pub fn open(alloc: Global, opened: OpenedSlots) -> Result<Self, AllocError>
         requires name { opened.first.table_id ≡ L.table }
         ensures { IfOk result (λ slots. slots ≡ no_slots) }
@@ -48,6 +48,7 @@ impl<L: SlotName> HeldSlots<L> {
         match no_leases(alloc) {
             Ok(leases) => Ok(HeldSlots { slots, leases }),
             Err(refused) => {
+                // Let go by one call, which keeps the proof short.
                 drop(slots);
                 Err(refused)
             }
@@ -68,7 +69,8 @@ impl<L: SlotName> HeldSlots<L> {
         leases.destroy_empty();
     }
 
-    /// A new slot, which is free and confirmed at this position. L3 where the name is there, then L4 where no place is left. L5 uses up a place.
+    /// A new slot, which is free and confirmed at this position. `Exists` (L3) where the name is there, then `NoPlace` (L4)
+    /// where no place is left. `Memory` (L5) uses up a place.
     pub fn create(&mut self, name: &str, position: u64) -> Result<(), SlotFault>
         ensures ok { OnOk result (self.new ≡ slots_after_create name.now position self.old) }
         ensures err { IfErr result (λ fault. self.new ≡ slots_after_refusal fault self.old) }
@@ -101,7 +103,8 @@ impl<L: SlotName> HeldSlots<L> {
         confirmed_in(self.slots(), name)
     }
 
-    /// Takes the slot of this name, and answers its confirmed position. It takes no memory. L1 where there is none, L2 where it is in use.
+    /// Takes the slot of this name, and answers its confirmed position. It takes no memory. `Missing` (L1) where there is none,
+    /// `InUse` (L2) where it is held.
     pub fn claim(&mut self, name: &str) -> Result<u64, SlotFault>
         ensures ok { OnOk result (self.new ≡ slots_after_claim name.now self.old) }
         ensures value { IfOk result (λ at. at ≡ confirmed_of (slot_of name.now self.old.slots)) }

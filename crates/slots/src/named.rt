@@ -42,7 +42,7 @@ impl<L: SlotName> Model for NamedSlots<L> {
 }
 
 impl<L: SlotName> NamedSlots<L> {
-    /// No slots, in a new table.
+    /// No slots, in a new table. `AllocError` where memory is refused.
     pub fn open(alloc: Global, opened: OpenedSlots) -> Result<Self, AllocError>
         requires name { opened.first.table_id ≡ L.table }
         ensures { IfOk result (λ slots. slots ≡ no_slots) }
@@ -61,7 +61,8 @@ impl<L: SlotName> NamedSlots<L> {
         })
     }
 
-    /// A new slot, which is free and confirmed at this position. L3 where the name is there, then L4 where no place is left. L5 uses up a place.
+    /// A new slot, which is free and confirmed at this position. `Exists` (L3) where the name is there, then `NoPlace` (L4)
+    /// where no place is left. `Memory` (L5) uses up a place.
     pub fn create(&mut self, name: &str, position: u64) -> Result<(), SlotFault>
         ensures ok { OnOk result (self.new ≡ slots_after_create name.now position self.old) }
         ensures err { IfErr result (λ fault. self.new ≡ slots_after_refusal fault self.old) }
@@ -102,7 +103,7 @@ impl<L: SlotName> NamedSlots<L> {
         self.directory.find(name)
     }
 
-    /// Takes the slot of this name. It takes no memory. L1 where there is none, L2 where it is in use.
+    /// Takes the slot of this name. It takes no memory. `Missing` (L1) where there is none, `InUse` (L2) where it is held.
     pub fn claim(&mut self, name: &str) -> Result<Lease<L>, SlotFault>
         ensures ok { OnOk result (self.new ≡ slots_after_claim name.now self.old) }
         ensures within { IfOk result (λ lease. lease.place < PLACES) }

@@ -27,6 +27,7 @@ pub struct OpenedSlots {
 }
 
 impl OpenedSlots {
+    /// A table with no slots; `AllocError` where memory for it is refused.
     pub fn new(alloc: Global) -> Result<Self, AllocError> {
         let (table, first) = Table::of_words(alloc, &[0; WORDS], &())?;
         Ok(OpenedSlots {
@@ -36,7 +37,7 @@ impl OpenedSlots {
         })
     }
 
-    /// The table, and as many seats. The last of them has number 0.
+    /// The table, and as many seats. The last of them has number 0. `AllocError` where memory for the seats is refused.
     pub fn open<L: SlotName>(
         self,
         seats: usize,

@@ -4,7 +4,7 @@ ghost use Rattle.std.specs.Prelude.{◌≡◌};
 
 use pqformat::Text;
 
-/// What is kept of a slot beside its place in the table.
+/// What is kept of a slot (PostgreSQL 15, 49.2.2) beside its place in the table.
 #[derive(Drop)]
 pub struct Slot {
     pub(crate) name: Text,

@@ -14,7 +14,7 @@ use std::alloc::{AllocError, Global};
 /// What a start names instead of a slot.
 const NO_SLOT: &str = "-";
 
-/// The slot that the word names, if it names one.
+/// The slot that the word names; None where it is `-`. `AllocError` where memory for the name is refused.
 pub fn slot_named(alloc: Global, word: &Text) -> Result<Option<Text>, AllocError>
     ensures { IfOk result (λ slot. slot ≡ slot_named word.now) }
 {
@@ -38,8 +38,8 @@ pub fn is_held<L: SlotName>(slots: &HeldSlots<L>, word: &Text) -> bool
     word.as_str() != NO_SLOT && slots.is_held(word.as_str())
 }
 
-/// Takes the slot that the word names, if it names one, and answers where a stream begins that asked for this position. L2 where
-/// the slot is held.
+/// Takes the slot that the word names, if it names one, and answers where a stream begins that asked for this position. `InUse`
+/// (L2) where the slot is held.
 pub fn take<L: SlotName>(
     slots: &mut HeldSlots<L>,
     word: &Text,

@@ -79,7 +79,8 @@ impl<L: SlotName> SlotTable<L> {
         }
     }
 
-    /// Makes a slot at the first place that was never made, and confirms this position. It is free then. With no such place it is L4.
+    /// Makes a slot at the first place that was never made, and confirms this position. It is free then. `NoPlace` (L4) where
+    /// there is no such place.
     pub fn create(&self, seat: &mut SlotSeat<L>, position: u64) -> Result<usize, SlotFault>
         ensures { MatchResult result
             (λ place. (place < PLACES) × Created seat.old position place seat.new)
@@ -95,8 +96,8 @@ impl<L: SlotName> SlotTable<L> {
         Err(SlotFault::NoPlace)
     }
 
-    /// Makes a slot at this place, and confirms this position, or the one of its line if that is further. It is free then. Where the
-    /// place was made already, or its line hasn't come to it, it is L4.
+    /// Makes a slot at this place, and confirms this position, or the one of its line if that is further. It is free then.
+    /// `NoPlace` (L4) where the place was made already, or its line hasn't come to it.
     pub fn make(&self, seat: &mut SlotSeat<L>, place: usize, position: u64) -> Result<(), SlotFault>
         requires { place < END_OF_PLACES }
         ensures { MatchResult result (λ _. Made seat.old position place seat.new)
@@ -129,7 +130,8 @@ impl<L: SlotName> SlotTable<L> {
         state_at(place, found)
     }
 
-    /// One compare and exchange, which takes a free place. A held one is L2, one that was never made or was dropped L1.
+    /// One compare and exchange, which takes a free place. A held one is `InUse` (L2), as is one to which its line hasn't come.
+    /// One that was never made or was dropped is `Missing` (L1).
     #[tactic(auto, using(crate::proofs::Holding::claimed_holds))]
     pub fn claim(&self, seat: &mut SlotSeat<L>, place: usize) -> Result<Lease<L>, SlotFault>
         requires { place < END_OF_PLACES }
@@ -188,7 +190,8 @@ impl<L: SlotName> SlotTable<L> {
         shared.store::<Releases>(&mut seat.seat, word, new)
     }
 
-    /// One compare and exchange, which drops a free place. A held one is L2, one that was never made or was dropped L1.
+    /// One compare and exchange, which drops a free place. A held one is `InUse` (L2), as is one to which its line hasn't come.
+    /// One that was never made or was dropped is `Missing` (L1).
     pub fn drop_slot(&self, seat: &mut SlotSeat<L>, place: usize) -> Result<(), SlotFault>
         requires { place < END_OF_PLACES }
         ensures { MatchResult result (λ _. Did Retire place 1 2 seat.old seat.new)

@@ -1,6 +1,6 @@
 -- The slots and journals of a history once a transaction has ended.
 use Rattle.std.proofs.Common.{◌≡◌, ℕ, Bool, true, false, cond, ◌||◌, List, [], ◌∷◌, Some, None, refl, sym, ap, subst, ◌∙◌}
-use Rattle.std.specs.Prelude.{Option}
+use Rattle.std.specs.Prelude.{Option, is_some}
 use Rattle.std.specs.List.{AllByRecursion}
 use Rattle.store.specs.declared.slot.Slot.{Slot}
 use Rattle.store.specs.declared.slot.Undo.{Undo}
@@ -10,9 +10,9 @@ use Rattle.tables.specs.declared.change.Change.TheVariants as changes
 use Rattle.store.specs.Slots.{same_key, undone_at, vacant}
 use Rattle.tables.specs.Tables.{FitsChange}
 use Rattle.store.specs.History.{Made, is_top, is_within, owner_after_end, change_after_end, history_after_end}
-use Rattle.store.specs.Keeping.{Put, put_at, is_put, puts_of, without_row, slot_after_emptying, is_emptied, touches, slot_by, slot_from, slot_after_end, is_noted, is_in_journal, IsUndo, OwnFirst, AreNotes, Follows, KeepsOff, AreApart}
+use Rattle.store.specs.Keeping.{Put, put_at, puts_of, emptied_slot, slot_after_emptying, touches, slot_by, slot_from, slot_after_end, is_noted, is_in_journal, IsUndo, OwnFirst, AreNotes, Follows, KeepsOff, AreApart}
 use Rattle.store.proofs.Histories.{or_left, or_right, top_self, top_is, undo_agrees, notes_none}
-use Rattle.store.proofs.Holding.{owner_by}
+use Rattle.store.proofs.Holding.{owner_by, takes, takes_touch}
 
 abbrev Slots : Type 0
 Slots = List ℕ → Slot
@@ -44,16 +44,19 @@ put_freed top owner (p ∷ ps) k s =
     ap (put_at (owner_after_end top owner) ps k) (freed_if top (same_key k p.0) (record { row = p.1; owner = owner }) s)
     ∙ put_freed top owner ps k (cond (same_key k p.0) (record { row = p.1; owner = owner }) s)
 
-emptied_freed : (top : ℕ) (change : Change) (k : List ℕ) (s : Slot) → slot_after_emptying change k (slot_after_end top s) ≡ slot_after_end top (slot_after_emptying change k s)
-emptied_freed top (changes.Insert oid row) k s = refl
-emptied_freed top (changes.Update oid old row) k s = refl
-emptied_freed top (changes.Delete oid old) k s = refl
-emptied_freed top (changes.Message message) k s = refl
-emptied_freed top (changes.Truncate oids) k s = freed_if top (is_within oids k) (without_row s) s
+emptied_freed : (top : ℕ) (owner : Option ℕ) (change : Change) (k : List ℕ) (s : Slot) →
+    slot_after_emptying (owner_after_end top owner) change k (slot_after_end top s) ≡ slot_after_end top (slot_after_emptying owner change k s)
+emptied_freed top owner (changes.Insert oid row) k s = refl
+emptied_freed top owner (changes.Update oid old row) k s = refl
+emptied_freed top owner (changes.Delete oid old) k s = refl
+emptied_freed top owner (changes.Message message) k s = refl
+emptied_freed top owner (changes.Truncate oids) k s =
+    ap (λ (t : Slot). cond (is_within oids k) t (slot_after_end top s)) (freed_if top (is_some s.row) (record { row = None; owner = owner }) s)
+    ∙ freed_if top (is_within oids k) (emptied_slot owner s) s
 
 by_freed : (tables : List Table) (top : ℕ) (m : Made) (k : List ℕ) (s : Slot) → slot_by tables (change_after_end top m) k (slot_after_end top s) ≡ slot_after_end top (slot_by tables m k s)
 by_freed tables top m k s =
-    ap (put_at (owner_after_end top m.top) (puts_of tables m.change) k) (emptied_freed top m.change k s) ∙ put_freed top m.top (puts_of tables m.change) k (slot_after_emptying m.change k s)
+    ap (put_at (owner_after_end top m.top) (puts_of tables m.change) k) (emptied_freed top m.top m.change k s) ∙ put_freed top m.top (puts_of tables m.change) k (slot_after_emptying m.top m.change k s)
 
 pub from_freed : (tables : List Table) (top : ℕ) (ms : List Made) (k : List ℕ) (s : Slot) → slot_from tables (history_after_end top ms) k (slot_after_end top s) ≡ slot_after_end top (slot_from tables ms k s)
 from_freed tables top [] k s = refl
@@ -68,14 +71,10 @@ Differ u top = (o : Option ℕ) → is_top u o ≡ true → is_top top o ≡ fal
 abbrev Unowned : List Table → ℕ → ℕ → List Made → Slots → Type 0
 Unowned tables top u ms b = AllByRecursion (λ n. is_top u n.top ≡ true → (k : List ℕ) → touches tables n.change k ≡ true → is_top top (b k).owner ≡ false) ms
 
-left_true : (a b : Bool) → a ≡ true → (a || b) ≡ true
-left_true true b is = refl
-left_true false b is = absurd cc
-
 unowned_after : (tables : List Table) (top u : ℕ) (m : Made) (b : Slots) (n : Made) → Differ u top → KeepsOff tables m n →
     (is_top u n.top ≡ true → (k : List ℕ) → touches tables n.change k ≡ true → is_top top (b k).owner ≡ false) →
     is_top u n.top ≡ true → (k : List ℕ) → touches tables n.change k ≡ true → is_top top (after tables m b k).owner ≡ false
-unowned_after tables top u m b n differ keeps before theirs k on = ap (is_top top) (owner_by tables m k (b k)) ∙ by_test (is_put k (puts_of tables m.change)) refl
+unowned_after tables top u m b n differ keeps before theirs k on = ap (is_top top) (owner_by tables m k (b k)) ∙ by_test (takes tables m.change k (b k)) refl
   where
     by_top : (a : Bool) → is_top top m.top ≡ a → touches tables m.change k ≡ true → is_top top m.top ≡ false
     by_top false off also = off
@@ -85,8 +84,8 @@ unowned_after tables top u m b n differ keeps before theirs k on = ap (is_top to
         let never : is_top top n.top ≡ false = differ n.top theirs in
         absurd cc
 
-    by_test : (a : Bool) → is_put k (puts_of tables m.change) ≡ a → is_top top (cond a m.top (b k).owner) ≡ false
-    by_test true puts = by_top (is_top top m.top) refl (left_true (is_put k (puts_of tables m.change)) (is_emptied m.change k) puts)
+    by_test : (a : Bool) → takes tables m.change k (b k) ≡ a → is_top top (cond a m.top (b k).owner) ≡ false
+    by_test true on = by_top (is_top top m.top) refl (takes_touch tables m.change k (b k) on)
     by_test false away = before theirs k on
 
 all_two : {A : Type 0} (P Q R : A → Type 0) (xs : List A) → ((x : A) → P x → Q x → R x) → AllByRecursion P xs → AllByRecursion Q xs → AllByRecursion R xs
@@ -186,7 +185,7 @@ owned_noted tables top (m ∷ ms) b gs k h away off = by_own (is_top top m.top) 
         ((hs : List (List Undo)) → AreNotes tables top ms (after tables m b) hs → is_in_journal k hs ≡ false → is_top top (slot_by tables m k (b k)).owner ≡ false →
         is_top top (slot_from tables ms k (slot_by tables m k (b k))).owner ≡ false) →
         is_top top (slot_from tables ms k (slot_by tables m k (b k))).owner ≡ false
-    by_own false own hs h away rest = rest hs h away (ap (is_top top) (owner_by tables m k (b k)) ∙ by_put own (is_put k (puts_of tables m.change)))
+    by_own false own hs h away rest = rest hs h away (ap (is_top top) (owner_by tables m k (b k)) ∙ by_put own (takes tables m.change k (b k)))
     by_own true own [] h away rest = absurd h
     by_own true own (g ∷ hs) h away rest =
         let same : slot_by tables m k (b k) ≡ b k = sym (undone_away g k (slot_by tables m k (b k)) (or_left (is_noted k g) (is_in_journal k hs) away)) ∙ h.0.restores k in

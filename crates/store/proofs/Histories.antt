@@ -8,10 +8,10 @@ use Rattle.store.specs.declared.slot.Undo.{Undo}
 use Rattle.tables.specs.declared.table.Table.{Table}
 use Rattle.tables.specs.declared.change.Change.{Change}
 use Rattle.tables.specs.declared.change.Change.TheVariants as changes
-use Rattle.store.specs.Slots.{same_key, undone_at}
+use Rattle.store.specs.Slots.{same_key, undone_at, CanUndo}
 use Rattle.store.specs.History.{Made, is_top, history_after_rollback, count_of}
 use Rattle.store.specs.Keeping.{Put, put_at, is_put, puts_of, slot_after_emptying, is_emptied, touches, slot_by, slot_from, IsUndo, OwnFirst, AreNotes, Follows, KeepsOff, AreApart}
-use Rattle.store.proofs.Undoing.{keys_same}
+use Rattle.store.proofs.Undoing.{keys_same, can_on}
 
 abbrev Slots : Type 0
 Slots = List ℕ → Slot
@@ -53,16 +53,16 @@ put_off top (p ∷ ps) k s off = by_test (same_key k p.0) off (put_off top ps k 
     by_test true off rest = absurd cc
     by_test false off rest = rest off
 
-pub emptied_off : (change : Change) (k : List ℕ) (s : Slot) → is_emptied change k ≡ false → slot_after_emptying change k s ≡ s
-emptied_off (changes.Truncate oids) k s off = rw off refl
-emptied_off (changes.Insert oid row) k s off = refl
-emptied_off (changes.Update oid old row) k s off = refl
-emptied_off (changes.Delete oid old) k s off = refl
-emptied_off (changes.Message message) k s off = refl
+pub emptied_off : (top : Option ℕ) (change : Change) (k : List ℕ) (s : Slot) → is_emptied change k ≡ false → slot_after_emptying top change k s ≡ s
+emptied_off top (changes.Truncate oids) k s off = rw off refl
+emptied_off top (changes.Insert oid row) k s off = refl
+emptied_off top (changes.Update oid old row) k s off = refl
+emptied_off top (changes.Delete oid old) k s off = refl
+emptied_off top (changes.Message message) k s off = refl
 
 pub off_touch : (tables : List Table) (m : Made) (k : List ℕ) (s : Slot) → touches tables m.change k ≡ false → slot_by tables m k s ≡ s
 off_touch tables m k s off =
-    ap (put_at m.top (puts_of tables m.change) k) (emptied_off m.change k s (or_right (is_put k (puts_of tables m.change)) (is_emptied m.change k) off))
+    ap (put_at m.top (puts_of tables m.change) k) (emptied_off m.top m.change k s (or_right (is_put k (puts_of tables m.change)) (is_emptied m.change k) off))
     ∙ put_off m.top (puts_of tables m.change) k s (or_left (is_put k (puts_of tables m.change)) (is_emptied m.change k) off)
 
 pub undone_off : (tables : List Table) (change : Change) (us : List Undo) (k : List ℕ) (s : Slot) → AllByRecursion (λ u. touches tables change u.key ≡ true) us → touches tables change k ≡ false →
@@ -86,7 +86,12 @@ abbrev after : List Table → Made → Slots → Slots
 after tables m b = λ k. slot_by tables m k (b k)
 
 pub undo_agrees : (tables : List Table) (m : Made) (b c : Slots) (us : List Undo) → ((k : List ℕ) → touches tables m.change k ≡ true → b k ≡ c k) → IsUndo tables m b us → IsUndo tables m c us
-undo_agrees tables m b c us same h = record { restores = λ k. by_test k (touches tables m.change k) refl; touched = h.touched }
+undo_agrees tables m b c us same h = record {
+  restores = λ k. by_test k (touches tables m.change k) refl;
+  undoable = can_on us (after tables m b) (after tables m c)
+      (all_map (λ u. touches tables m.change u.key ≡ true) (λ u. after tables m b u.key ≡ after tables m c u.key) us (λ u on. ap (slot_by tables m u.key) (same u.key on)) h.touched) h.undoable;
+  touched = h.touched;
+}
   where
     by_test : (k : List ℕ) (a : Bool) → touches tables m.change k ≡ a → undone_at us k (slot_by tables m k (c k)) ≡ c k
     by_test k true on = subst (λ (s : Slot). undone_at us k (slot_by tables m k s) ≡ s) (same k on) (h.restores k)
@@ -251,6 +256,28 @@ undone_rolled tables top (m ∷ ms) b (x ∷ gs) g k apart h =
         (AreNotes tables top ms (after tables m b) (x ∷ (gs ++ g ∷ [])) →
         undone_at g k (slot_from tables ms k (slot_by tables m k (b k))) ≡ slot_from tables (history_after_rollback top (suc (length gs)) ms) k (slot_by tables m k (b k))) →
         undone_at g k (slot_from tables ms k (slot_by tables m k (b k))) ≡ slot_from tables (cond a (m ∷ history_after_rollback top (length gs) ms) (m ∷ history_after_rollback top (suc (length gs)) ms)) k (b k)
+    by_own true h less rest = less h.1
+    by_own false h less rest = rest h
+
+-- the last change of a transaction can be undone
+pub can_rolled : (tables : List Table) (top : ℕ) (ms : List Made) (b : Slots) (gs : List (List Undo)) (g : List Undo) → AreApart tables ms → AreNotes tables top ms b (gs ++ g ∷ []) →
+    CanUndo g (λ k. slot_from tables ms k (b k))
+can_rolled tables top [] b gs g apart h = absurd (not_empty gs g h)
+can_rolled tables top (m ∷ ms) b [] g apart h = by_own (is_top top m.top) refl h (can_rolled tables top ms (after tables m b) [] g apart.1)
+  where
+    by_own : (a : Bool) → is_top top m.top ≡ a → OwnFirst (IsUndo tables m b) (AreNotes tables top ms (after tables m b)) a (g ∷ []) →
+        (AreNotes tables top ms (after tables m b) (g ∷ []) → CanUndo g (λ k. slot_from tables ms k (slot_by tables m k (b k)))) → CanUndo g (λ k. slot_from tables ms k (slot_by tables m k (b k)))
+    by_own true own h rest =
+        can_on g (after tables m b) (λ k. slot_from tables ms k (slot_by tables m k (b k)))
+        (all_map (λ u. touches tables m.change u.key ≡ true) (λ u. after tables m b u.key ≡ slot_from tables ms u.key (slot_by tables m u.key (b u.key))) g
+        (λ u on. sym (stays tables top m ms u.key (slot_by tables m u.key (b u.key)) (top_is top m.top own) apart.0 (none_noted tables top ms (after tables m b) h.1) on)) h.0.touched) h.0.undoable
+    by_own false own h rest = rest h
+can_rolled tables top (m ∷ ms) b (x ∷ gs) g apart h =
+    by_own (is_top top m.top) h (can_rolled tables top ms (after tables m b) gs g apart.1) (can_rolled tables top ms (after tables m b) (x ∷ gs) g apart.1)
+  where
+    by_own : (a : Bool) → OwnFirst (IsUndo tables m b) (AreNotes tables top ms (after tables m b)) a (x ∷ (gs ++ g ∷ [])) →
+        (AreNotes tables top ms (after tables m b) (gs ++ g ∷ []) → CanUndo g (λ k. slot_from tables ms k (slot_by tables m k (b k)))) →
+        (AreNotes tables top ms (after tables m b) (x ∷ (gs ++ g ∷ [])) → CanUndo g (λ k. slot_from tables ms k (slot_by tables m k (b k)))) → CanUndo g (λ k. slot_from tables ms k (slot_by tables m k (b k)))
     by_own true h less rest = less h.1
     by_own false h less rest = rest h
 

@@ -1,5 +1,5 @@
 -- The rows and the holds of a history, and that who holds no one's places keeps apart from all.
-use Rattle.std.proofs.Common.{◌≡◌, ℕ, Bool, true, false, cond, eqb, not, ◌||◌, ◌&&◌, List, [], ◌∷◌, ◌++◌, take, map, Some, None, refl, sym, ap, subst, ◌∙◌}
+use Rattle.std.proofs.Common.{◌≡◌, ℕ, Bool, true, false, cond, eqb, not, ◌||◌, ◌&&◌, List, [], ◌∷◌, ◌++◌, take, map, Some, None, refl, sym, ap, subst, ◌∙◌, is_some, eq-eqb}
 use Rattle.std.proofs.lemmas.Bool.{eqb-true}
 use Rattle.std.proofs.Math.Seq.{take-append_seam}
 use Rattle.std.specs.Prelude.{Option}
@@ -14,8 +14,8 @@ use Rattle.tables.specs.declared.change.Change.TheVariants as changes
 use Rattle.store.specs.Slots.{same_key, vacant}
 use Rattle.store.specs.Rows.{Key, Rows, key_text}
 use Rattle.tables.specs.Tables.{FitsRow, FitsChange}
-use Rattle.store.specs.History.{Made, is_other, is_within, is_among, is_held, rows_with, rows_from, row_place, table_place, places_of}
-use Rattle.store.specs.Keeping.{Put, all_emptied, put_at, is_put, puts_of, without_row, slot_after_emptying, is_emptied, touches, slot_by, slot_from, Follows, KeepsOff, AreApart}
+use Rattle.store.specs.History.{Made, is_other, is_within, is_among, is_held, is_key_held, rows_with, rows_from, row_place, table_place, places_of}
+use Rattle.store.specs.Keeping.{Put, all_emptied, put_at, is_put, puts_of, emptied_slot, slot_after_emptying, is_emptied, touches, slot_by, slot_from, Follows, KeepsOff, AreApart}
 use Rattle.store.proofs.Undoing.{same_self, keys_same}
 use Rattle.store.proofs.Histories.{or_left, or_right, put_off}
 
@@ -86,7 +86,7 @@ not_put (x ∷ oids) k off =
     by_test false on rest = rest
 
 row_by : (tables : List Table) (top : Option ℕ) (change : Change) (key : Key) (s : Slot) (rows : Rows) → s.row ≡ rows key →
-    (put_at top (puts_of tables change) (key_text key) (slot_after_emptying change (key_text key) s)).row ≡ rows_with tables change rows key
+    (put_at top (puts_of tables change) (key_text key) (slot_after_emptying top change (key_text key) s)).row ≡ rows_with tables change rows key
 row_by tables top (changes.Insert oid row) key s rows is =
     let a = same_key (key_text key) (row_place tables oid row) in
     row_if a (record { row = Some row; owner = top }) s ∙ ap (λ (r : Option (List Value)). cond a (Some row) r) is
@@ -101,8 +101,12 @@ row_by tables top (changes.Delete oid old) key s rows is =
 row_by tables top (changes.Message message) key s rows is = is
 row_by tables top (changes.Truncate oids) key s rows is = by_test (is_within oids (key_text key)) refl
   where
-    by_test : (a : Bool) → is_within oids (key_text key) ≡ a → (put_at top (all_emptied oids) (key_text key) (cond a (without_row s) s)).row ≡ cond a None (rows key)
-    by_test true on = emptied_none top oids (key_text key) (without_row s) refl
+    gone : (r : Option (List Value)) → (let t : Slot = cond (is_some r) (record { row = None; owner = top }) (record { row = r; owner = s.owner }) in t.row ≡ None)
+    gone None = refl
+    gone (Some row) = refl
+
+    by_test : (a : Bool) → is_within oids (key_text key) ≡ a → (put_at top (all_emptied oids) (key_text key) (cond a (emptied_slot top s) s)).row ≡ cond a None (rows key)
+    by_test true on = emptied_none top oids (key_text key) (emptied_slot top s) (gone s.row)
     by_test false off = ap (λ (t : Slot). t.row) (put_off top (all_emptied oids) (key_text key) s (not_put oids (key_text key) off)) ∙ is
 
 pub rows_are : (tables : List Table) (ms : List Made) (key : Key) (s : Slot) (rows : Rows) → s.row ≡ rows key → (slot_from tables ms (key_text key) s).row ≡ rows_from tables ms rows key
@@ -133,21 +137,39 @@ put_owner top (p ∷ ps) k s =
     by_test true false = refl
     by_test false b = refl
 
-emptied_owner : (change : Change) (k : List ℕ) (s : Slot) → (slot_after_emptying change k s).owner ≡ s.owner
-emptied_owner (changes.Insert oid row) k s = refl
-emptied_owner (changes.Update oid old row) k s = refl
-emptied_owner (changes.Delete oid old) k s = refl
-emptied_owner (changes.Message message) k s = refl
-emptied_owner (changes.Truncate oids) k s = by_test (is_within oids k)
+emptied_owner : (top : Option ℕ) (change : Change) (k : List ℕ) (s : Slot) → (slot_after_emptying top change k s).owner ≡ cond (is_emptied change k && is_some s.row) top s.owner
+emptied_owner top (changes.Insert oid row) k s = refl
+emptied_owner top (changes.Update oid old row) k s = refl
+emptied_owner top (changes.Delete oid old) k s = refl
+emptied_owner top (changes.Message message) k s = refl
+emptied_owner top (changes.Truncate oids) k s = by_test (is_within oids k) (is_some s.row)
   where
-    by_test : (a : Bool) → (cond a (without_row s) s).owner ≡ s.owner
-    by_test true = refl
-    by_test false = refl
+    by_test : (a b : Bool) → (cond a (cond b (record { row = None; owner = top }) s) s).owner ≡ cond (a && b) top s.owner
+    by_test true true = refl
+    by_test true false = refl
+    by_test false b = refl
 
-pub owner_by : (tables : List Table) (m : Made) (k : List ℕ) (s : Slot) → (slot_by tables m k s).owner ≡ cond (is_put k (puts_of tables m.change)) m.top s.owner
+-- whether a change takes a place for its transaction: it puts there, or takes the row away
+abbrev pub takes : List Table → Change → List ℕ → Slot → Bool
+takes tables change k s = is_put k (puts_of tables change) || (is_emptied change k && is_some s.row)
+
+pub takes_touch : (tables : List Table) (change : Change) (k : List ℕ) (s : Slot) → takes tables change k s ≡ true → touches tables change k ≡ true
+takes_touch tables change k s on = by_test (is_put k (puts_of tables change)) (is_emptied change k) (is_some s.row) on
+  where
+    by_test : (a b c : Bool) → (a || (b && c)) ≡ true → (a || b) ≡ true
+    by_test true b c on = refl
+    by_test false true c on = refl
+    by_test false false c on = absurd cc
+
+pub owner_by : (tables : List Table) (m : Made) (k : List ℕ) (s : Slot) → (slot_by tables m k s).owner ≡ cond (takes tables m.change k s) m.top s.owner
 owner_by tables m k s =
-    put_owner m.top (puts_of tables m.change) k (slot_after_emptying m.change k s)
-    ∙ ap (λ (o : Option ℕ). cond (is_put k (puts_of tables m.change)) m.top o) (emptied_owner m.change k s)
+    put_owner m.top (puts_of tables m.change) k (slot_after_emptying m.top m.change k s)
+    ∙ ap (λ (o : Option ℕ). cond (is_put k (puts_of tables m.change)) m.top o) (emptied_owner m.top m.change k s)
+    ∙ by_test (is_put k (puts_of tables m.change)) (is_emptied m.change k && is_some s.row)
+  where
+    by_test : (a b : Bool) → cond a m.top (cond b m.top s.owner) ≡ cond (a || b) m.top s.owner
+    by_test true b = refl
+    by_test false b = refl
 
 pub and_false : (a b : Bool) → (a && b) ≡ false → b ≡ true → a ≡ false
 and_false true true off on = absurd cc
@@ -158,27 +180,14 @@ and_false false b off on = refl
 abbrev holds_by : List Table → ℕ → List ℕ → Made → Bool
 holds_by tables top k m = is_other top m.top && is_among k (places_of tables m.change)
 
-pub not_held : (tables : List Table) (top : ℕ) (ms : List Made) (k : List ℕ) (s : Slot) → is_held tables top ms k ≡ false → is_other top s.owner ≡ false →
-    is_other top (slot_from tables ms k s).owner ≡ false
-not_held tables top [] k s none off = off
-not_held tables top (m ∷ ms) k s none off =
-    not_held tables top ms k (slot_by tables m k s) (or_right (holds_by tables top k m) (is_held tables top ms k) none)
-    (ap (is_other top) (owner_by tables m k s) ∙ by_test (is_put k (puts_of tables m.change)) refl)
-  where
-    by_test : (a : Bool) → is_put k (puts_of tables m.change) ≡ a → is_other top (cond a m.top s.owner) ≡ false
-    by_test true on =
-        and_false (is_other top m.top) (is_among k (places_of tables m.change)) (or_left (holds_by tables top k m) (is_held tables top ms k) none) (places_put k tables m.change ∙ on)
-    by_test false on = off
-
 stays_owned : (tables : List Table) (x : ℕ) (m : Made) (ms : List Made) (k : List ℕ) (s : Slot) → m.top ≡ Some x → AllByRecursion (KeepsOff tables m) ms → touches tables m.change k ≡ true →
     s.owner ≡ Some x → (slot_from tables ms k s).owner ≡ Some x
 stays_owned tables x m [] k s own off on is = is
 stays_owned tables x m (n ∷ ms) k s own off on is =
-    stays_owned tables x m ms k (slot_by tables n k s) own off.1 on (owner_by tables n k s ∙ by_test (is_put k (puts_of tables n.change)) refl)
+    stays_owned tables x m ms k (slot_by tables n k s) own off.1 on (owner_by tables n k s ∙ by_test (takes tables n.change k s) refl)
   where
-    by_test : (a : Bool) → is_put k (puts_of tables n.change) ≡ a → cond a n.top s.owner ≡ Some x
-    by_test true also =
-        subst (λ (o : Option ℕ). Follows o n.top) own (off.0 k on (left_true (is_put k (puts_of tables n.change)) (is_emptied n.change k) also))
+    by_test : (a : Bool) → takes tables n.change k s ≡ a → cond a n.top s.owner ≡ Some x
+    by_test true also = subst (λ (o : Option ℕ). Follows o n.top) own (off.0 k on (takes_touch tables n.change k s also))
     by_test false away = is
 
 pub and_left : (a b : Bool) → (a && b) ≡ true → a ≡ true
@@ -189,7 +198,7 @@ pub and_right : (a b : Bool) → (a && b) ≡ true → b ≡ true
 and_right true b is = is
 and_right false b is = absurd cc
 
-held : (tables : List Table) (top : ℕ) (ms : List Made) (k : List ℕ) (s : Slot) → AreApart tables ms → is_held tables top ms k ≡ true → is_other top (slot_from tables ms k s).owner ≡ true
+pub held : (tables : List Table) (top : ℕ) (ms : List Made) (k : List ℕ) (s : Slot) → AreApart tables ms → is_held tables top ms k ≡ true → is_other top (slot_from tables ms k s).owner ≡ true
 held tables top [] k s apart on = absurd cc
 held tables top (m ∷ ms) k s apart on = by_test (holds_by tables top k m) refl on (held tables top ms k (slot_by tables m k s) apart.1)
   where
@@ -197,7 +206,7 @@ held tables top (m ∷ ms) k s apart on = by_test (holds_by tables top k m) refl
     by_top None is other puts = absurd cc
     by_top (Some x) is other puts =
         ap (is_other top) (stays_owned tables x m ms k (slot_by tables m k s) is apart.0 (left_true (is_put k (puts_of tables m.change)) (is_emptied m.change k) puts)
-        (owner_by tables m k s ∙ ap (λ (a : Bool). cond a m.top s.owner) puts ∙ is)) ∙ other
+        (owner_by tables m k s ∙ ap (λ (a : Bool). cond a m.top s.owner) (left_true (is_put k (puts_of tables m.change)) (is_emptied m.change k && is_some s.row) puts) ∙ is)) ∙ other
 
     by_test : (a : Bool) → holds_by tables top k m ≡ a → (a || is_held tables top ms k) ≡ true → (is_held tables top ms k ≡ true → is_other top (slot_from tables ms k (slot_by tables m k s)).owner ≡ true) →
         is_other top (slot_from tables ms k (slot_by tables m k s)).owner ≡ true
@@ -205,14 +214,6 @@ held tables top (m ∷ ms) k s apart on = by_test (holds_by tables top k m) refl
         by_top m.top refl (and_left (is_other top m.top) (is_among k (places_of tables m.change)) here)
         (sym (places_put k tables m.change) ∙ and_right (is_other top m.top) (is_among k (places_of tables m.change)) here)
     by_test false here on rest = rest on
-
--- a slot tells whether another holds its place
-pub held_is : (tables : List Table) (top : ℕ) (ms : List Made) (k : List ℕ) → AreApart tables ms → is_other top (slot_from tables ms k vacant).owner ≡ is_held tables top ms k
-held_is tables top ms k apart = by_test (is_held tables top ms k) refl
-  where
-    by_test : (a : Bool) → is_held tables top ms k ≡ a → is_other top (slot_from tables ms k vacant).owner ≡ a
-    by_test true on = held tables top ms k vacant apart on
-    by_test false off = not_held tables top ms k vacant off refl
 
 -- WHAT IS NOT HELD MAY BE CHANGED
 
@@ -254,6 +255,38 @@ free_place tables top oid p (m ∷ ms) front table_free free = (
 
     here : Off tables top p m
     here on = follows_own top m.top (by_test (is_put p (puts_of tables m.change)) refl on)
+
+not_other : (top : ℕ) (o : Option ℕ) → Follows o (Some top) → is_other top o ≡ false
+not_other top None follows = refl
+not_other top (Some x) follows = ap (is_other top) (sym follows) ∙ ap not (eq-eqb top top refl)
+
+pub not_held : (tables : List Table) (top : ℕ) (ms : List Made) (k : List ℕ) (s : Slot) → AllByRecursion (Off tables top k) ms → is_other top s.owner ≡ false →
+    is_other top (slot_from tables ms k s).owner ≡ false
+not_held tables top [] k s free off = off
+not_held tables top (m ∷ ms) k s free off =
+    not_held tables top ms k (slot_by tables m k s) free.1 (ap (is_other top) (owner_by tables m k s) ∙ by_test (takes tables m.change k s) refl)
+  where
+    by_test : (a : Bool) → takes tables m.change k s ≡ a → is_other top (cond a m.top s.owner) ≡ false
+    by_test true on = not_other top m.top (free.0 (takes_touch tables m.change k s on))
+    by_test false on = off
+
+-- the slots tell whether another holds a key or its table: a row that a truncate took away is held as its table is
+pub key_held_is : (tables : List Table) (top : ℕ) (ms : List Made) (key : Key) → AreApart tables ms →
+    (is_other top (slot_from tables ms (table_place key.oid) vacant).owner || is_other top (slot_from tables ms (key_text key) vacant).owner) ≡ is_key_held tables top ms key
+key_held_is tables top ms key apart = by_test (is_held tables top ms (table_place key.oid)) (is_held tables top ms (key_text key)) refl refl
+  where
+    of_table : Bool
+    of_table = is_other top (slot_from tables ms (table_place key.oid) vacant).owner
+
+    of_key : Bool
+    of_key = is_other top (slot_from tables ms (key_text key) vacant).owner
+
+    by_test : (a b : Bool) → is_held tables top ms (table_place key.oid) ≡ a → is_held tables top ms (key_text key) ≡ b → (of_table || of_key) ≡ (a || b)
+    by_test true b on also = left_true of_table of_key (held tables top ms (table_place key.oid) vacant apart on)
+    by_test false true off on = right_true of_table of_key (held tables top ms (key_text key) vacant apart on)
+    by_test false false off none =
+        ap (λ (x : Bool). x || of_key) (not_held tables top ms (table_place key.oid) vacant (free_place tables top key.oid (table_place key.oid) ms (front_of_table key.oid) off off) refl)
+        ∙ not_held tables top ms (key_text key) vacant (free_place tables top key.oid (key_text key) ms (front_of_key key) off none) refl
 
 -- a change that alters slots where it puts rows alone
 abbrev pub OffAll : List Table → ℕ → List Put → Made → Type 0
@@ -307,20 +340,17 @@ home_gone tables top true k s home row is = absurd (never is)
 home_gone tables top false k s home row is = home row is
 
 home_by : (tables : List Table) (top : Option ℕ) (change : Change) (k : List ℕ) (s : Slot) → FitsChange tables change → AtHome tables k s →
-    AtHome tables k (put_at top (puts_of tables change) k (slot_after_emptying change k s))
+    AtHome tables k (put_at top (puts_of tables change) k (slot_after_emptying top change k s))
 home_by tables top (changes.Insert oid row) k s fits home = home_put tables top oid row k s fits home
 home_by tables top (changes.Update oid old row) k s fits home =
     home_put tables top oid row k (cond (same_key k (row_place tables oid old)) (record { row = None; owner = top }) s) fits.1
     (home_gone tables top (same_key k (row_place tables oid old)) k s home)
 home_by tables top (changes.Delete oid old) k s fits home = home_gone tables top (same_key k (row_place tables oid old)) k s home
 home_by tables top (changes.Message message) k s fits home = home
-home_by tables top (changes.Truncate oids) k s fits home = all_gone oids (cond (is_within oids k) (without_row s) s) (by_test (is_within oids k))
+home_by tables top (changes.Truncate oids) k s fits home = all_gone oids (cond (is_within oids k) (emptied_slot top s) s) (by_test (is_within oids k))
   where
-    by_test : (a : Bool) → AtHome tables k (cond a (without_row s) s)
-    by_test true row is = absurd (never is)
-      where
-        never : None ≡ Some row → ⊥
-        never e = absurd cc
+    by_test : (a : Bool) → AtHome tables k (cond a (emptied_slot top s) s)
+    by_test true row is = home_gone tables top (is_some s.row) k s home row is
     by_test false row is = home row is
 
     all_gone : (xs : List ℕ) (t : Slot) → AtHome tables k t → AtHome tables k (put_at top (all_emptied xs) k t)

@@ -4,19 +4,21 @@ use Rattle.std.specs.Prelude.{Option, Result, Ok, Err, OnOk, OnErr, IfOk, IfErr,
 use Rattle.store.specs.declared.store_fault.StoreFault.{StoreFault}
 use Rattle.store.specs.declared.store_fault.StoreFault.TheVariants as faults
 use Rattle.store.specs.declared.slot.Undo.{Undo}
-use Rattle.store.specs.Slots.{Entries, HavePlaces, slots_after_undo}
+use Rattle.store.specs.Slots.{Entries, CanUndo, slot_at, undone_at}
 use Rattle.store.specs.History.{change_made}
-use Rattle.store.specs.Keeping.{StoreState, journal_of, Put, put_all, noted_of, Makes, IsSame, IsRefusal, IsRefusalOrMemory, RefusedOrMemory}
+use Rattle.store.specs.Keeping.{StoreState, journal_of, Put, put_all, noted_of, AreShort, Makes, IsSame, IsRefusal, IsRefusalOrMemory, RefusedOrMemory}
 use Rattle.store.proofs.Storing.{ShortPuts, same_puts}
 
 -- RESULTS
 
 pub puts_refused : {A E : Type 0} (r : Result A E) (s new : StoreState) (top : ℕ) (ps : List Put) (slots : Entries) (undos : List Undo) → new.tables ≡ s.tables → slots ≡ put_all (Some top) ps s.slots →
-    undos ≡ noted_of (Some top) ps s.slots → ShortPuts ps → OnErr r (HavePlaces slots undos → new.slots ≡ slots_after_undo slots undos) →
-    OnErr r ((x : ℕ) → journal_of x new.journals ≡ journal_of x s.journals) → OnErr r (IsSame s new)
-puts_refused (Ok x) s new top ps slots undos same made noted short back journals = tt
-puts_refused (Err e) s new top ps slots undos same made noted short back journals =
-    same_puts s new top ps slots same made short (subst (λ (us : List Undo). HavePlaces slots us → new.slots ≡ slots_after_undo slots us) noted back) journals
+    undos ≡ noted_of (Some top) ps s.slots → ShortPuts ps → OnErr r (CanUndo undos (slot_at slots) → (k : List ℕ) → slot_at new.slots k ≡ undone_at undos k (slot_at slots k)) →
+    OnErr r (CanUndo undos (slot_at slots) → AreShort slots → AreShort new.slots) → OnErr r ((x : ℕ) → journal_of x new.journals ≡ journal_of x s.journals) → OnErr r (IsSame s new)
+puts_refused (Ok x) s new top ps slots undos same made noted short back kept journals = tt
+puts_refused (Err e) s new top ps slots undos same made noted short back kept journals =
+    same_puts s new top ps slots same made short
+    (subst (λ (us : List Undo). CanUndo us (slot_at slots) → (k : List ℕ) → slot_at new.slots k ≡ undone_at us k (slot_at slots k)) noted back)
+    (subst (λ (us : List Undo). CanUndo us (slot_at slots) → AreShort slots → AreShort new.slots) noted kept) journals
 
 pub puts_made : {A E : Type 0} (r : Result A E) (s new : StoreState) (top : ℕ) (ps : List Put) (slots : Entries) (undos : List Undo) → new.tables ≡ s.tables → slots ≡ put_all (Some top) ps s.slots →
     undos ≡ noted_of (Some top) ps s.slots → OnOk r (new.slots ≡ slots) →

@@ -7,13 +7,14 @@ use Rattle.std.specs.Cmp.{nat_eq_equiv}
 use Rattle.std.proofs.lemmas.Bool.{eqb-true}
 use Rattle.std.proofs.lemmas.Map.Steps.{length-le_from_keys}
 use Rattle.pqformat.specs.Fields.{int32}
+use Rattle.store.specs.declared.slot.Slot.{Slot}
 use Rattle.store.specs.declared.slot.Undo.{Undo}
 use Rattle.tables.specs.declared.table.Table.{Table}
 use Rattle.tables.specs.declared.change_body.TheConstants.{MAX_TRUNCATED}
 use Rattle.tables.specs.declared.change.Change.{Change}
 use Rattle.tables.specs.declared.change.Change.TheVariants as changes
 use Rattle.store.specs.declared.store_fault.StoreFault.TheVariants as faults
-use Rattle.store.specs.Slots.{same_key, Entries, slot_at, HavePlaces, slots_after_undo, undone_at}
+use Rattle.store.specs.Slots.{same_key, vacant, Entries, slot_at, CanUndo, undone_at}
 use Rattle.tables.specs.Tables.{table_of, FitsChange}
 use Rattle.store.specs.History.{Made, change_made, is_other, is_within, is_among, is_held, is_any_held, places_of, table_place, unless, truncate_fault, truncate_refusal}
 use Rattle.tables.specs.Tables.{repeats}
@@ -21,7 +22,7 @@ use Rattle.store.specs.Keeping.{StoreState, journal_of, all_emptied, is_put, put
 use Rattle.store.specs.Emptying.{AreAtPlace, is_other_within, emptied_at, AreNoted, Does}
 use Rattle.store.proofs.Undoing.{keys_same, same_self}
 use Rattle.store.proofs.Histories.{all_map, or_left, or_right}
-use Rattle.store.proofs.Holding.{places_put, not_put, follows_own, emptied_put, front_of_table, and_false, and_left, and_right, left_true, right_true}
+use Rattle.store.proofs.Holding.{Off, not_held, places_put, not_put, follows_own, emptied_put, front_of_table, and_false, and_left, and_right, left_true, right_true}
 use Rattle.store.proofs.Storing.{keeps_does, place_held}
 use Rattle.store.proofs.Changing.{not_longer}
 use Rattle.store.proofs.Truncating.{other_found, none_other, noted_undone}
@@ -112,24 +113,6 @@ any_held_at tables top oids (m ∷ h) on =
         let rest = later on in
         (rest.0, rest.1, right_true (is_other top m.top && is_among rest.0 (places_of tables m.change)) (is_held tables top h rest.0) rest.2)
 
--- the slots tell whether another holds a place of these tables
-pub within_held : (s : StoreState) (h : List Made) (top : ℕ) (oids : List ℕ) → AreAtPlace s.slots → Keeps s h → is_other_within top oids s.slots ≡ is_any_held s.tables top h oids
-within_held s h top oids at keeps = by_test (is_any_held s.tables top h oids) refl
-  where
-    by_test : (a : Bool) → is_any_held s.tables top h oids ≡ a → is_other_within top oids s.slots ≡ a
-    by_test true on =
-        let held = any_held_at s.tables top oids h on in
-        other_found top oids s.slots held.0 held.1 (place_held s h top held.0 keeps ∙ held.2)
-    by_test false off = none_other top oids s.slots s.slots at (λ k within. by_held k (is_held s.tables top h k) refl within)
-      where
-        by_held : (k : List ℕ) (a : Bool) → is_held s.tables top h k ≡ a → is_within oids k ≡ true → is_other top (slot_at s.slots k).owner ≡ false
-        by_held k false none within = place_held s h top k keeps ∙ none
-        by_held k true held within =
-            let on : is_any_held s.tables top h oids ≡ true = held_any s.tables top oids h k held within in
-            absurd cc
-
--- WHAT A TRUNCATE DOES
-
 emptied_within : (oids k : List ℕ) → (is_put k (all_emptied oids) || is_within oids k) ≡ true → is_within oids k ≡ true
 emptied_within oids k on = by_test (is_within oids k) refl on
   where
@@ -147,6 +130,23 @@ all_off tables top oids (m ∷ h) free = (
       (touched_within tables m.change oids k (emptied_within oids k also) on)),
   all_off tables top oids h (or_right (is_other top m.top && list_any (is_within oids) (places_of tables m.change)) (is_any_held tables top h oids) free),
 )
+
+-- the slots tell whether another holds a place of these tables
+pub within_held : (s : StoreState) (h : List Made) (top : ℕ) (oids : List ℕ) → AreAtPlace s.slots → Keeps s h → is_other_within top oids s.slots ≡ is_any_held s.tables top h oids
+within_held s h top oids at keeps = by_test (is_any_held s.tables top h oids) refl
+  where
+    n : Made
+    n = change_made top (changes.Truncate oids)
+
+    by_test : (a : Bool) → is_any_held s.tables top h oids ≡ a → is_other_within top oids s.slots ≡ a
+    by_test true on =
+        let held = any_held_at s.tables top oids h on in
+        other_found top oids s.slots held.0 held.1 (place_held s h top held.0 keeps held.2)
+    by_test false off = none_other top oids s.slots s.slots at (λ k within. ap (λ (t : Slot). is_other top t.owner) (keeps.stands k)
+        ∙ not_held s.tables top h k vacant (all_map (λ m. KeepsOff s.tables m n) (Off s.tables top k) h
+        (λ m keeps_off on. keeps_off k on (right_true (is_put k (all_emptied oids)) (is_within oids k) within)) (all_off s.tables top oids h off)) refl)
+
+-- WHAT A TRUNCATE DOES
 
 truncate_none : (tables : List Table) (oids : List ℕ) (held : Bool) → truncate_fault tables oids held ≡ None → held ≡ false
 truncate_none tables oids held none = by_tests (not (list_all (λ oid. is_some (table_of oid tables)) oids)) (nat_eq (length oids) 0 || repeats oids) (nat_lt MAX_TRUNCATED (length oids)) held none
@@ -235,12 +235,13 @@ emptied_does s new top oids slots undos same kept stands noted journals = record
   restore = λ k. ap (λ (es : Entries). undone_at undos k (slot_at es k)) kept ∙ noted.restore k;
   touched = all_map (λ u. is_within oids u.key ≡ true) (λ u. touches s.tables (changes.Truncate oids) u.key ≡ true) undos
       (λ u within. right_true (is_put u.key (all_emptied oids)) (is_within oids u.key) within) noted.within;
-  there = subst (λ (es : Entries). HavePlaces es undos) (sym kept) noted.there;
-  places = λ us all. subst (λ (es : Entries). HavePlaces es us) (sym kept) (noted.places us all);
+  undoable = subst (λ (es : Entries). CanUndo undos (slot_at es)) (sym kept) noted.undoable;
   short = λ all. subst AreShort (sym kept) (noted.short all);
   journals = journals;
 }
 
 pub emptied_same : (s new : StoreState) (oids : List ℕ) (slots : Entries) (undos : List Undo) → new.tables ≡ s.tables → AreNoted oids s.slots slots undos →
-    (HavePlaces slots undos → new.slots ≡ slots_after_undo slots undos) → ((x : ℕ) → journal_of x new.journals ≡ journal_of x s.journals) → IsSame s new
-emptied_same s new oids slots undos same noted back journals = record { tables = same; slots = noted_undone oids s.slots slots new.slots undos noted back; journals = journals }
+    (CanUndo undos (slot_at slots) → (k : List ℕ) → slot_at new.slots k ≡ undone_at undos k (slot_at slots k)) → (CanUndo undos (slot_at slots) → AreShort slots → AreShort new.slots) →
+    ((x : ℕ) → journal_of x new.journals ≡ journal_of x s.journals) → IsSame s new
+emptied_same s new oids slots undos same noted back short journals =
+    record { tables = same; slots = noted_undone oids s.slots slots new.slots undos noted back short; journals = journals }

@@ -10,13 +10,13 @@ use Rattle.pqformat.proofs.Numbers.{length-int32}
 use Rattle.store.specs.declared.slot.Slot.{Slot}
 use Rattle.store.specs.declared.slot.Undo.{Undo}
 use Rattle.tables.specs.declared.kinds.Value.{Value}
-use Rattle.store.specs.Slots.{same_key, Entries, entries_of, slot_at, slots_with, HasPlace, HavePlaces, slots_after_undo, undone_at}
+use Rattle.store.specs.Slots.{same_key, Entries, entries_of, slot_at, slots_with, is_used, CanUndo, undone_at}
 use Rattle.store.specs.History.{is_other, is_within, is_among, table_place}
-use Rattle.store.specs.Keeping.{all_emptied, put_at, without_row, AreShort, SameSlots}
+use Rattle.store.specs.Keeping.{all_emptied, put_at, emptied_slot, AreShort, SameSlots}
 use Rattle.store.specs.Emptying.{AreAtPlace, is_other_within, filled_within, taken_at, IsOf, AreNoted}
-use Rattle.store.proofs.Undoing.{slot_put, slot_undone, places_kept, place_made, undone_keeps, keys_same, same_self, short_put, short_undone}
+use Rattle.store.proofs.Undoing.{slot_put, put_there, keys_same, same_self, short_put, undone_last, can_more}
 use Rattle.store.proofs.Histories.{all_more}
-use Rattle.store.proofs.Holding.{and_right, front_of_table, right_true}
+use Rattle.store.proofs.Holding.{and_left, and_right, front_of_table, right_true}
 
 abbrev slot : Option (List Value) → Option ℕ → Slot
 slot row owner = record { row = row; owner = owner }
@@ -111,50 +111,62 @@ filled_off oids (e ∷ es) k off = by_test (is_some e.1.row && is_within oids e.
     by_test true on rest = apart (same_key k e.0) (keys_same k e.0) (and_right (is_some e.1.row) (is_within oids e.0) on) rest
     by_test false on rest = rest
 
-taken_is : (ps : List (List ℕ)) (k : List ℕ) (s : Slot) → taken_at ps k s ≡ cond (is_among k ps) (without_row s) s
-taken_is [] k s = refl
-taken_is (p ∷ ps) k s = taken_is ps k (cond (same_key k p) (without_row s) s) ∙ by_test (same_key k p) (is_among k ps)
+taken_is : (top : ℕ) (ps : List (List ℕ)) (k : List ℕ) (s : Slot) → taken_at top ps k s ≡ cond (is_among k ps) (slot None (Some top)) s
+taken_is top [] k s = refl
+taken_is top (p ∷ ps) k s = taken_is top ps k (cond (same_key k p) (slot None (Some top)) s) ∙ by_test (same_key k p) (is_among k ps)
   where
-    by_test : (a b : Bool) → cond b (without_row (cond a (without_row s) s)) (cond a (without_row s) s) ≡ cond (a || b) (without_row s) s
+    by_test : (a b : Bool) → cond b (slot None (Some top)) (cond a (slot None (Some top)) s) ≡ cond (a || b) (slot None (Some top)) s
     by_test true true = refl
     by_test true false = refl
     by_test false b = refl
 
--- a slot without a row is as it was
-no_row : (row : Option (List Value)) (owner : Option ℕ) → is_some row ≡ false → slot None owner ≡ slot row owner
-no_row None owner none = refl
-no_row (Some row) owner none = absurd cc
+-- a row stands at each of the places that are found
+filled_row : (oids : List ℕ) (all es : Entries) (k : List ℕ) → AllByRecursion (λ e. slot_at all e.0 ≡ e.1) es → is_among k (filled_within oids es) ≡ true → is_some (slot_at all k).row ≡ true
+filled_row oids all [] k at among = absurd cc
+filled_row oids all (e ∷ es) k at among = by_test (is_some e.1.row && is_within oids e.0) refl among (filled_row oids all es k at.1)
+  where
+    here : is_some e.1.row ≡ true → (a : Bool) → (a ≡ true → k ≡ e.0) → (a || is_among k (filled_within oids es)) ≡ true →
+        (is_among k (filled_within oids es) ≡ true → is_some (slot_at all k).row ≡ true) → is_some (slot_at all k).row ≡ true
+    here some true same on later = ap (λ (j : List ℕ). is_some (slot_at all j).row) (same refl) ∙ ap (λ (s : Slot). is_some s.row) at.0 ∙ some
+    here some false same on later = later on
+
+    by_test : (a : Bool) → (is_some e.1.row && is_within oids e.0) ≡ a → is_among k (cond a (e.0 ∷ filled_within oids es) (filled_within oids es)) ≡ true →
+        (is_among k (filled_within oids es) ≡ true → is_some (slot_at all k).row ≡ true) → is_some (slot_at all k).row ≡ true
+    by_test true is on later = here (and_left (is_some e.1.row) (is_within oids e.0) is) (same_key k e.0) (keys_same k e.0) on later
+    by_test false is on later = later on
 
 -- all rows of these tables go
-pub taken_all : (oids : List ℕ) (es : Entries) (k : List ℕ) → taken_at (filled_within oids es) k (slot_at es k) ≡ cond (is_within oids k) (without_row (slot_at es k)) (slot_at es k)
-taken_all oids es k = taken_is (filled_within oids es) k (slot_at es k) ∙ by_test (is_within oids k) refl
+pub taken_all : (top : ℕ) (oids : List ℕ) (es : Entries) (k : List ℕ) → AreAtPlace es →
+    taken_at top (filled_within oids es) k (slot_at es k) ≡ cond (is_within oids k) (emptied_slot (Some top) (slot_at es k)) (slot_at es k)
+taken_all top oids es k at = taken_is top (filled_within oids es) k (slot_at es k) ∙ by_test (is_within oids k) refl
   where
     s : Slot
     s = slot_at es k
 
-    by_row : (a : Bool) → is_some s.row ≡ a → is_within oids k ≡ true → cond (is_among k (filled_within oids es)) (without_row s) s ≡ without_row s
-    by_row true some within = ap (λ (b : Bool). cond b (without_row s) s) (filled_is oids es k some within)
-    by_row false none within = by_among (is_among k (filled_within oids es))
-      where
-        by_among : (b : Bool) → cond b (without_row s) s ≡ without_row s
-        by_among true = refl
-        by_among false = sym (no_row s.row s.owner none)
+    gone : Slot
+    gone = slot None (Some top)
 
-    by_test : (a : Bool) → is_within oids k ≡ a → cond (is_among k (filled_within oids es)) (without_row s) s ≡ cond a (without_row s) s
+    by_row : (a : Bool) → is_some s.row ≡ a → is_within oids k ≡ true → cond (is_among k (filled_within oids es)) gone s ≡ cond a gone s
+    by_row true some within = ap (λ (b : Bool). cond b gone s) (filled_is oids es k some within)
+    by_row false none within = by_among (is_among k (filled_within oids es)) refl
+      where
+        by_among : (b : Bool) → is_among k (filled_within oids es) ≡ b → cond b gone s ≡ s
+        by_among true among =
+            let some : is_some s.row ≡ true = filled_row oids es es k at among in
+            absurd cc
+        by_among false away = refl
+
+    by_test : (a : Bool) → is_within oids k ≡ a → cond (is_among k (filled_within oids es)) gone s ≡ cond a (emptied_slot (Some top) s) s
     by_test true within = by_row (is_some s.row) refl within
-    by_test false off = ap (λ (b : Bool). cond b (without_row s) s) (filled_off oids es k off)
+    by_test false off = ap (λ (b : Bool). cond b gone s) (filled_off oids es k off)
 
 -- STEP BY STEP
 
-pub taken_next : (places : List (List ℕ)) (i : ℕ) (p : List ℕ) (owner : Option ℕ) (now next : Entries) (k : List ℕ) (total : Slot) → drop i places ≡ p ∷ drop (i + 1) places →
-    owner ≡ (slot_at now p).owner → next ≡ slots_with p (slot None owner) now → taken_at (drop i places) k (slot_at now k) ≡ total → taken_at (drop (i + 1) places) k (slot_at next k) ≡ total
-taken_next places i p owner now next k total left owned made so_far =
-    ap (taken_at (drop (i + 1) places) k) (ap (λ (es : Entries). slot_at es k) made ∙ slot_put p (slot None owner) now k ∙ by_test (same_key k p) (keys_same k p))
-    ∙ ap (λ (ps : List (List ℕ)). taken_at ps k (slot_at now k)) (sym left) ∙ so_far
-  where
-    by_test : (a : Bool) → (a ≡ true → k ≡ p) → cond a (slot None owner) (slot_at now k) ≡ cond a (without_row (slot_at now k)) (slot_at now k)
-    by_test true same = ap (slot None) (owned ∙ ap (λ (j : List ℕ). (slot_at now j).owner) (sym (same refl)))
-    by_test false same = refl
+pub taken_next : (top : ℕ) (places : List (List ℕ)) (i : ℕ) (p : List ℕ) (now next : Entries) (k : List ℕ) (total : Slot) → drop i places ≡ p ∷ drop (i + 1) places →
+    next ≡ slots_with p (slot None (Some top)) now → taken_at top (drop i places) k (slot_at now k) ≡ total → taken_at top (drop (i + 1) places) k (slot_at next k) ≡ total
+taken_next top places i p now next k total left made so_far =
+    ap (taken_at top (drop (i + 1) places) k) (ap (λ (es : Entries). slot_at es k) made ∙ slot_put p (slot None (Some top)) now k)
+    ∙ ap (λ (ps : List (List ℕ)). taken_at top ps k (slot_at now k)) (sym left) ∙ so_far
 
 pub held_next : (top : ℕ) (oids : List ℕ) (i oid : ℕ) (now next : Entries) (k : List ℕ) (total : Slot) → drop i oids ≡ oid ∷ drop (i + 1) oids → next ≡ slots_with (table_place oid) (slot None (Some top)) now →
     put_at (Some top) (all_emptied (drop i oids)) k (slot_at now k) ≡ total → put_at (Some top) (all_emptied (drop (i + 1) oids)) k (slot_at next k) ≡ total
@@ -165,21 +177,16 @@ held_next top oids i oid now next k total left made so_far =
 -- WHAT IS NOTED
 
 pub noted_none : (oids : List ℕ) (es : Entries) → AreNoted oids es es []
-noted_none oids es = record { restore = λ k. refl; there = tt; within = tt; places = λ us all. all; short = λ all. all }
+noted_none oids es = record { restore = λ k. refl; undoable = tt; within = tt; short = λ all. all }
 
-restores_last : (us : List Undo) (u : Undo) (k : List ℕ) (s : Slot) → undone_at (us ++ u ∷ []) k s ≡ undone_at us k (cond (same_key k u.key) u.before s)
-restores_last [] u k s = refl
-restores_last (x ∷ us) u k s = ap (λ (t : Slot). cond (same_key k x.key) x.before t) (restores_last us u k s)
-
-pub noted_next : (oids : List ℕ) (start now next : Entries) (undos more : List Undo) (p : List ℕ) (v : Slot) → IsOf oids start p → next ≡ slots_with p v now →
+pub noted_next : (oids : List ℕ) (start now next : Entries) (undos more : List Undo) (p : List ℕ) (v : Slot) → is_used v ≡ true → IsOf oids start p → next ≡ slots_with p v now →
     more ≡ undos ++ record { key = p; before = slot_at now p } ∷ [] → AreNoted oids start now undos → AreNoted oids start next more
-noted_next oids start now next undos more p v here made noted h =
+noted_next oids start now next undos more p v used here made noted h =
     let P : Entries → List Undo → Type 0 = AreNoted oids start in
     subst (λ (es : Entries). P es more) (sym made) (subst (P (slots_with p v now)) (sym noted) (record {
-      restore = λ k. restores_last undos u k (slot_at (slots_with p v now) k) ∙ ap (undone_at undos k) (by_place k) ∙ h.restore k;
-      there = all_more (HasPlace (slots_with p v now)) undos u (places_kept p v now undos h.there) (place_made p v now);
+      restore = λ k. undone_last undos u k (slot_at (slots_with p v now) k) ∙ ap (undone_at undos k) (by_place k) ∙ h.restore k;
+      undoable = can_more undos u (slot_at now) (slot_at (slots_with p v now)) by_place (ap is_used (put_there p v now) ∙ used) h.undoable;
       within = all_more (λ x. is_within oids x.key ≡ true) undos u h.within here.within;
-      places = λ us all. places_kept p v now us (h.places us all);
       short = λ all. short_put p v now (here.short all) (h.short all);
     }))
   where
@@ -196,12 +203,9 @@ noted_next oids start now next undos more p v here made noted h =
 pub noted_same : (oids : List ℕ) (start now next : Entries) (undos more : List Undo) → next ≡ now → more ≡ undos → AreNoted oids start now undos → AreNoted oids start next more
 noted_same oids start now next undos more same noted h = subst (λ (es : Entries). AreNoted oids start es more) (sym same) (subst (AreNoted oids start now) (sym noted) h)
 
-pub noted_undone : (oids : List ℕ) (old now new : Entries) (undos : List Undo) → AreNoted oids old now undos → (HavePlaces now undos → new ≡ slots_after_undo now undos) → SameSlots old new
-noted_undone oids old now new undos h back = subst (SameSlots old) (sym (back h.there)) (record {
-  slots = λ k. slot_undone now undos k ∙ h.restore k;
-  places = λ us all. undone_keeps now undos us (h.places us all);
-  short = λ all. short_undone now undos h.there (h.short all);
-})
+pub noted_undone : (oids : List ℕ) (old now new : Entries) (undos : List Undo) → AreNoted oids old now undos →
+    (CanUndo undos (slot_at now) → (k : List ℕ) → slot_at new k ≡ undone_at undos k (slot_at now k)) → (CanUndo undos (slot_at now) → AreShort now → AreShort new) → SameSlots old new
+noted_undone oids old now new undos h back short = record { slots = λ k. back h.undoable k ∙ h.restore k; short = λ all. short h.undoable (h.short all) }
 
 -- A TABLE'S PLACE
 

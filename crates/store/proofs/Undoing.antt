@@ -1,16 +1,18 @@
 -- Slots, and what undoing a change leaves at each place.
-use Rattle.std.proofs.Common.{◌≡◌, ℕ, ◌≤◌, Bool, true, false, cond, ◌||◌, List, [], ◌∷◌, ◌++◌, length, Some, refl, sym, ap, subst, ◌∙◌}
+use Rattle.std.proofs.Common.{◌≡◌, ℕ, ◌-◌, ◌≤◌, Bool, true, false, cond, not, ◌&&◌, ◌||◌, List, [], ◌∷◌, ◌++◌, length, get_or, set, position, swap_remove, All, Some, refl, sym, ap, subst, ◌∙◌, arith}
+use Rattle.std.proofs.lemmas.List.Elements.{All-from_recursion, recursion_from_All, All-take, All-set, All-get_or}
 use Rattle.std.specs.Cmp.Lexicographic.{nat_list_eq_equiv}
 use Rattle.std.proofs.lemmas.Bool.Decides.{Decides-eqb}
 use Rattle.std.proofs.lemmas.Slice.Eq.{slice_eq-Decides}
-use Rattle.std.specs.Map.{lookup, set_value}
+use Rattle.std.specs.Map.{lookup, set_value, keys_of, KeepsOthers}
+use Rattle.std.specs.Option.{option_map_or}
 use Rattle.std.specs.Cmp.Lexicographic.{pointwise}
-use Rattle.std.specs.Prelude.{Option, unwrap_or, None, IsSome, Vec, nat_eq}
-use Rattle.indexmap.specs.IndexMap.{insert_entry}
+use Rattle.std.specs.Prelude.{Option, unwrap_or, None, IsSome, is_some, Vec, nat_eq}
+use Rattle.indexmap.specs.IndexMap.{insert_entry, swap_remove_entry}
 use Rattle.std.specs.List.{AllByRecursion}
 use Rattle.store.specs.declared.slot.Slot.{Slot}
 use Rattle.store.specs.declared.slot.Undo.{Undo}
-use Rattle.store.specs.Slots.{same_key, vacant, Entries, entries_of, slot_at, slots_with, HasPlace, HavePlaces, slots_after_undo, undone_at}
+use Rattle.store.specs.Slots.{same_key, vacant, Entries, entries_of, slot_at, slots_with, is_used, AreUsed, CanUndo, undone_at}
 use Rattle.store.specs.declared.key.TheConstants.{MAX_KEY_LENGTH}
 use Rattle.store.specs.History.{is_top, owner_after_end}
 use Rattle.store.specs.Keeping.{AreShort, SameSlots, is_noted, slot_after_end}
@@ -58,40 +60,23 @@ was_there inside es key text shown named none there =
 
 -- PLACES
 
-pull : (test : List ℕ → Bool) (a : Bool) (xs ys : Entries) → lookup test (cond a xs ys) ≡ cond a (lookup test xs) (lookup test ys)
-pull test true xs ys = refl
-pull test false xs ys = refl
-
-pub place_kept : (test : List ℕ → Bool) (k : List ℕ) (v : Slot) (es : Entries) → IsSome (lookup test es) → IsSome (lookup test (slots_with k v es))
-place_kept test k v [] some = absurd cc
-place_kept test k v (e ∷ es) some =
-    subst IsSome (sym (pull test (same_key k e.0) ((e.0, v) ∷ es) (e ∷ slots_with k v es))) (by_test (same_key k e.0) (test e.0) some (place_kept test k v es))
-  where
-    by_test : (a b : Bool) → IsSome (cond b (Some e.1) (lookup test es)) → (IsSome (lookup test es) → IsSome (lookup test (slots_with k v es))) →
-        IsSome (cond a (cond b (Some v) (lookup test es)) (cond b (Some e.1) (lookup test (slots_with k v es))))
-    by_test true true some later = refl
-    by_test true false some later = some
-    by_test false true some later = refl
-    by_test false false some later = later some
-
 pub same_self : (k : List ℕ) → same_key k k ≡ true
 same_self k = nat_list_eq_equiv.refl k
 
-pub place_made : (k : List ℕ) (v : Slot) (es : Entries) → IsSome (lookup (same_key k) (slots_with k v es))
-place_made k v [] = rw (same_self k) refl
-place_made k v (e ∷ es) = by_test (same_key k e.0) refl (place_made k v es)
+pub used_there : (es : Entries) (k : List ℕ) → is_used (slot_at es k) ≡ true → IsSome (lookup (same_key k) es)
+used_there es k used = by_found (lookup (same_key k) es) used
   where
-    by_test : (a : Bool) → same_key k e.0 ≡ a → IsSome (lookup (same_key k) (slots_with k v es)) → IsSome (lookup (same_key k) (cond a ((e.0, v) ∷ es) (e ∷ slots_with k v es)))
-    by_test true is rest = rw is refl
-    by_test false is rest = rw is rest
+    by_found : (o : Option Slot) → is_used (unwrap_or o vacant) ≡ true → IsSome o
+    by_found None used = absurd cc
+    by_found (Some s) used = refl
 
-all_back : (P : Undo → Type 0) (us : List Undo) (u : Undo) → AllByRecursion P us → P u → AllByRecursion P (us ++ u ∷ [])
-all_back P [] u all one = (one, tt)
-all_back P (x ∷ us) u all one = (all.0, all_back P us u all.1 one)
-
-pub places_kept : (k : List ℕ) (v : Slot) (es : Entries) (us : List Undo) → HavePlaces es us → HavePlaces (slots_with k v es) us
-places_kept k v es [] all = tt
-places_kept k v es (u ∷ us) all = (place_kept (same_key u.key) k v es all.0, places_kept k v es us all.1)
+pub used_put : (k : List ℕ) (v : Slot) (es : Entries) → is_used v ≡ true → AreUsed es → AreUsed (slots_with k v es)
+used_put k v [] used all = (used, tt)
+used_put k v (e ∷ es) used all = by_test (same_key k e.0) (used_put k v es used all.1)
+  where
+    by_test : (a : Bool) → AreUsed (slots_with k v es) → AreUsed (cond a ((e.0, v) ∷ es) (e ∷ slots_with k v es))
+    by_test true rest = (used, all.1)
+    by_test false rest = (all.0, rest)
 
 -- WHAT STANDS AT A KEY
 
@@ -128,34 +113,62 @@ slot_put k v es j = ap (λ (o : Option Slot). unwrap_or o vacant) (lookup_put k 
     by_test true = refl
     by_test false = refl
 
--- at a place, undoing a change is told of its slot alone
-pub slot_undone : (es : Entries) (us : List Undo) (j : List ℕ) → slot_at (slots_after_undo es us) j ≡ undone_at us j (slot_at es j)
-slot_undone es [] j = refl
-slot_undone es (u ∷ us) j = slot_put u.key u.before (slots_after_undo es us) j ∙ ap (λ (s : Slot). cond (same_key j u.key) u.before s) (slot_undone es us j)
-
-pub undone_keeps : (es : Entries) (us vs : List Undo) → HavePlaces es vs → HavePlaces (slots_after_undo es us) vs
-undone_keeps es [] vs all = all
-undone_keeps es (u ∷ us) vs all = places_kept u.key u.before (slots_after_undo es us) vs (undone_keeps es us vs all)
+pub put_there : (k : List ℕ) (v : Slot) (es : Entries) → slot_at (slots_with k v es) k ≡ v
+put_there k v es = slot_put k v es k ∙ ap (λ (a : Bool). cond a v (slot_at es k)) (same_self k)
 
 pub keys_same : (j k : List ℕ) → same_key j k ≡ true → j ≡ k
 keys_same j k same = (slice_eq-Decides Decides-eqb j k _ refl).0 same
 
-pub undone_last : (es : Entries) (us : List Undo) (u : Undo) → slots_after_undo es (us ++ u ∷ []) ≡ slots_after_undo (slots_with u.key u.before es) us
-undone_last es [] u = refl
-undone_last es (x ∷ us) u = ap (slots_with x.key x.before) (undone_last es us u)
+-- UNDOING
 
-pub all_front : (P : Undo → Type 0) (us : List Undo) (u : Undo) → AllByRecursion P (us ++ u ∷ []) → AllByRecursion P us × P u
-all_front P [] u all = (tt, all.0)
-all_front P (x ∷ us) u all = let rest = all_front P us u all.1 in ((all.0, rest.0), rest.1)
+abbrev At : Type 0
+At = List ℕ → Slot
 
-pub undoing_next : (now next es : Entries) (us less all : List Undo) (u : Undo) → HavePlaces now us → slots_after_undo now us ≡ slots_after_undo es all → us ≡ less ++ u ∷ [] →
-    (IsSome (lookup (same_key u.key) now) → next ≡ slots_with u.key u.before now) → HavePlaces next less × (slots_after_undo next less ≡ slots_after_undo es all)
-undoing_next now next es us less all u places same popped back =
-    let parts : HavePlaces now less × HasPlace now u = all_front (HasPlace now) less u (subst (HavePlaces now) popped places) in
-    let is : next ≡ slots_with u.key u.before now = back parts.1 in (
-      subst (λ (l : Entries). HavePlaces l less) (sym is) (places_kept u.key u.before now less parts.0),
-      ap (λ (l : Entries). slots_after_undo l less) is ∙ sym (undone_last now less u) ∙ ap (slots_after_undo now) (sym popped) ∙ same,
-    )
+pub can_on : (us : List Undo) (at to : At) → AllByRecursion (λ u. at u.key ≡ to u.key) us → CanUndo us at → CanUndo us to
+can_on [] at to same can = tt
+can_on (u ∷ us) at to same can = (ap (λ (s : Slot). is_used (undone_at us u.key s)) (sym same.0) ∙ can.0, can_on us at to same.1 can.1)
+
+pub can_same : (us : List Undo) (at to : At) → ((k : List ℕ) → at k ≡ to k) → CanUndo us at → CanUndo us to
+can_same [] at to same can = tt
+can_same (u ∷ us) at to same can = (ap (λ (s : Slot). is_used (undone_at us u.key s)) (sym (same u.key)) ∙ can.0, can_same us at to same can.1)
+
+pub undone_last : (us : List Undo) (u : Undo) (k : List ℕ) (s : Slot) → undone_at (us ++ u ∷ []) k s ≡ undone_at us k (cond (same_key k u.key) u.before s)
+undone_last [] u k s = refl
+undone_last (x ∷ us) u k s = ap (λ (t : Slot). cond (same_key k x.key) x.before t) (undone_last us u k s)
+
+-- one change more, whose place is used
+pub can_more : (us : List Undo) (u : Undo) (at to : At) → ((k : List ℕ) → cond (same_key k u.key) u.before (to k) ≡ at k) → is_used (to u.key) ≡ true → CanUndo us at → CanUndo (us ++ u ∷ []) to
+can_more [] u at to back used can = (used, tt)
+can_more (x ∷ us) u at to back used can =
+    (ap is_used (undone_last us u x.key (to x.key) ∙ ap (undone_at us x.key) (back x.key)) ∙ can.0, can_more us u at to back used can.1)
+
+can_less : (us : List Undo) (u : Undo) (at to : At) → ((k : List ℕ) → to k ≡ cond (same_key k u.key) u.before (at k)) → CanUndo (us ++ u ∷ []) at → CanUndo us to × (is_used (at u.key) ≡ true)
+can_less [] u at to step can = (tt, can.0)
+can_less (x ∷ us) u at to step can =
+    let rest = can_less us u at to step can.1 in
+    ((ap (λ (s : Slot). is_used (undone_at us x.key s)) (step x.key) ∙ ap is_used (sym (undone_last us u x.key (at x.key))) ∙ can.0, rest.0), rest.1)
+
+can_first : (us : List Undo) (u : Undo) (at : At) → CanUndo (us ++ u ∷ []) at → is_used (at u.key) ≡ true
+can_first [] u at can = can.0
+can_first (x ∷ us) u at can = can_first us u at can.1
+
+-- as far as a loop has come
+pub record Undone (us : List Undo) (all : List Undo) (now old : Entries) : Type 0 where
+  pub can : CanUndo us (slot_at now)
+  pub slots : (k : List ℕ) → undone_at us k (slot_at now k) ≡ undone_at all k (slot_at old k)
+  pub short : AreShort old → AreShort now
+
+pub undoing_next : (now next old : Entries) (us less all : List Undo) (u : Undo) → us ≡ less ++ u ∷ [] →
+    (is_used (slot_at now u.key) ≡ true → (k : List ℕ) → slot_at next k ≡ cond (same_key k u.key) u.before (slot_at now k)) →
+    (is_used (slot_at now u.key) ≡ true → AreShort now → AreShort next) → Undone us all now old → Undone less all next old
+undoing_next now next old us less all u popped step short so_far =
+    let can : CanUndo (less ++ u ∷ []) (slot_at now) = subst (λ (xs : List Undo). CanUndo xs (slot_at now)) popped so_far.can in
+    let used : is_used (slot_at now u.key) ≡ true = can_first less u (slot_at now) can in
+    record {
+      can = (can_less less u (slot_at now) (slot_at next) (step used) can).0;
+      slots = λ k. ap (undone_at less k) (step used k) ∙ sym (undone_last less u k (slot_at now k)) ∙ ap (λ (xs : List Undo). undone_at xs k (slot_at now k)) (sym popped) ∙ so_far.slots k;
+      short = λ all_short. short used (so_far.short all_short);
+    }
 
 -- THE SAME AT EACH PLACE
 
@@ -180,23 +193,23 @@ short_put k v (e ∷ es) le all = by_test (same_key k e.0) (short_put k v es le 
     by_test false rest = (all.0, rest)
 
 pub same_itself : (es new : Entries) → new ≡ es → SameSlots es new
-same_itself es new is = let P : Entries → Type 0 = λ l. SameSlots es l in subst P (sym is) (record { slots = λ j. refl; places = λ us all. all; short = λ all. all })
+same_itself es new is = let P : Entries → Type 0 = λ l. SameSlots es l in subst P (sym is) (record { slots = λ j. refl; short = λ all. all })
 
-pub undo_same : (es made also new : Entries) (k : List ℕ) (v : Slot) (us : List Undo) → length k ≤ MAX_KEY_LENGTH → made ≡ slots_with k v es → SameSlots made also →
-    us ≡ record { key = k; before = slot_at es k } ∷ [] → (HavePlaces also us → new ≡ slots_after_undo also us) → SameSlots es new
-undo_same es made also new k v us le put_is same noted back =
-    let u : Undo = record { key = k; before = slot_at es k } in
-    let there : HavePlaces made (u ∷ []) = subst (λ (l : Entries). HavePlaces l (u ∷ [])) (sym put_is) (place_made k v es, tt) in
-    let whole : new ≡ slots_with k (slot_at es k) also =
-    back (subst (HavePlaces also) (sym noted) (same.places (u ∷ []) there)) ∙ ap (slots_after_undo also) noted in
-    let P : Entries → Type 0 = λ l. SameSlots es l in
-    subst P (sym whole) (record {
-      slots = λ j. slot_put k (slot_at es k) also j
-          ∙ ap (λ (s : Slot). cond (same_key j k) (slot_at es k) s) (same.slots j ∙ ap (λ (l : Entries). slot_at l j) put_is)
-          ∙ sym (slot_put k (slot_at es k) (slots_with k v es) j) ∙ put_twice k v es j;
-      places = λ us all. places_kept k (slot_at es k) also us (same.places us (subst (λ (l : Entries). HavePlaces l us) (sym put_is) (places_kept k v es us all)));
-      short = λ all. short_put k (slot_at es k) also le (same.short (subst AreShort (sym put_is) (short_put k v es le all)));
-    })
+pub undo_same : (es made also new : Entries) (k : List ℕ) (v : Slot) (us : List Undo) → is_used v ≡ true → length k ≤ MAX_KEY_LENGTH → made ≡ slots_with k v es → SameSlots made also →
+    us ≡ record { key = k; before = slot_at es k } ∷ [] → (CanUndo us (slot_at also) → (j : List ℕ) → slot_at new j ≡ undone_at us j (slot_at also j)) →
+    (CanUndo us (slot_at also) → AreShort also → AreShort new) → SameSlots es new
+undo_same es made also new k v us used le put_is same noted back short = record {
+  slots = λ j. back can j ∙ ap (λ (xs : List Undo). undone_at xs j (slot_at also j)) noted
+      ∙ ap (λ (s : Slot). cond (same_key j k) (slot_at es k) s) (same.slots j ∙ ap (λ (l : Entries). slot_at l j) put_is)
+      ∙ sym (slot_put k (slot_at es k) (slots_with k v es) j) ∙ put_twice k v es j;
+  short = λ all. short can (same.short (subst AreShort (sym put_is) (short_put k v es le all)));
+}
+  where
+    there : slot_at also k ≡ v
+    there = same.slots k ∙ ap (λ (l : Entries). slot_at l k) put_is ∙ put_there k v es
+
+    can : CanUndo us (slot_at also)
+    can = subst (λ (xs : List Undo). CanUndo xs (slot_at also)) (sym noted) (ap is_used there ∙ used, tt)
 
 -- A PLACE THAT IS FREED
 
@@ -222,19 +235,13 @@ short_there k v (e ∷ es) there all = by_test (same_key k e.0) there (λ h. sho
     by_test true there rest = (all.0, all.1)
     by_test false there rest = (all.0, rest there)
 
-pub short_undone : (es : Entries) (us : List Undo) → HavePlaces es us → AreShort es → AreShort (slots_after_undo es us)
-short_undone es [] there all = all
-short_undone es (u ∷ us) there all = short_there u.key u.before (slots_after_undo es us) (undone_keeps es us (u ∷ []) (there.0, tt)).0 (short_undone es us there.1 all)
-
 pub record Frees (top : ℕ) (key : List ℕ) (old new : Entries) : Type 0 where
   pub slots : (place : List ℕ) → slot_at new place ≡ cond (same_key place key) (slot_after_end top (slot_at old place)) (slot_at old place)
-  pub places : (undos : List Undo) → HavePlaces old undos → HavePlaces new undos
   pub short : AreShort old → AreShort new
 
 frees_put : (top : ℕ) (key : List ℕ) (es : Entries) → IsSome (lookup (same_key key) es) → Frees top key es (slots_with key (slot_after_end top (slot_at es key)) es)
 frees_put top key es there = record {
   slots = λ j. slot_put key (slot_after_end top (slot_at es key)) es j ∙ by_test j (same_key j key) (keys_same j key);
-  places = λ us all. places_kept key (slot_after_end top (slot_at es key)) es us all;
   short = short_there key (slot_after_end top (slot_at es key)) es there;
 }
   where
@@ -242,16 +249,55 @@ frees_put top key es there = record {
     by_test j true same = ap (λ (k : List ℕ). slot_after_end top (slot_at es k)) (sym (same refl))
     by_test j false same = refl
 
+-- what is written at a place that is there
+written_is : {A : Type 0} (top : ℕ) (key : List ℕ) (inside new : List (Vec ℕ A × Slot)) (es : Entries) (slot : Slot) → entries_of inside ≡ es →
+    Some slot ≡ lookup (λ k. pointwise nat_eq key k.items) inside → new ≡ set_value (λ k. pointwise nat_eq key k.items) inside (slot_after_end top slot) →
+    (slot_at es key ≡ slot) × (lookup (same_key key) es ≡ Some slot) × (entries_of new ≡ slots_with key (slot_after_end top (slot_at es key)) es)
+written_is top key inside new es slot shown found_is written = (
+  stands,
+  at,
+  ap entries_of written ∙ set_there inside key (slot_after_end top slot) (by_option (lookup (λ k. pointwise nat_eq key k.items) inside) slot (sym found_is))
+      ∙ ap (λ (l : Entries). slots_with key (slot_after_end top slot) l) shown ∙ ap (λ (s : Slot). slots_with key (slot_after_end top s) es) (sym stands),
+)
+  where
+    at : lookup (same_key key) es ≡ Some slot
+    at = ap (λ (l : Entries). lookup (same_key key) l) (sym shown) ∙ sym (found inside key) ∙ sym found_is
+
+    stands : slot_at es key ≡ slot
+    stands = ap (λ (o : Option Slot). unwrap_or o vacant) at
+
 pub frees_there : {A : Type 0} (top : ℕ) (key : List ℕ) (inside new : List (Vec ℕ A × Slot)) (es : Entries) (slot : Slot) → entries_of inside ≡ es →
     Some slot ≡ lookup (λ k. pointwise nat_eq key k.items) inside → new ≡ set_value (λ k. pointwise nat_eq key k.items) inside (slot_after_end top slot) → Frees top key es (entries_of new)
 frees_there top key inside new es slot shown found_is written =
-    let at : lookup (same_key key) es ≡ Some slot = ap (λ (l : Entries). lookup (same_key key) l) (sym shown) ∙ sym (found inside key) ∙ sym found_is in
-    let stands : slot_at es key ≡ slot = ap (λ (o : Option Slot). unwrap_or o vacant) at in
-    let whole : entries_of new ≡ slots_with key (slot_after_end top (slot_at es key)) es =
-    ap entries_of written ∙ set_there inside key (slot_after_end top slot) (by_option (lookup (λ k. pointwise nat_eq key k.items) inside) slot (sym found_is))
-    ∙ ap (λ (l : Entries). slots_with key (slot_after_end top slot) l) shown ∙ ap (λ (s : Slot). slots_with key (slot_after_end top s) es) (sym stands) in
+    let is = written_is top key inside new es slot shown found_is written in
     let P : Entries → Type 0 = λ l. Frees top key es l in
-    subst P (sym whole) (frees_put top key es (by_option (lookup (same_key key) es) slot at))
+    subst P (sym is.2) (frees_put top key es (by_option (lookup (same_key key) es) slot is.1))
+
+used_at : (es : Entries) (k : List ℕ) (s : Slot) → AreUsed es → lookup (same_key k) es ≡ Some s → is_used s ≡ true
+used_at [] k s all is = absurd cc
+used_at (e ∷ es) k s all is = by_test (same_key k e.0) is (used_at es k s all.1)
+  where
+    by_test : (a : Bool) → cond a (Some e.1) (lookup (same_key k) es) ≡ Some s → (lookup (same_key k) es ≡ Some s → is_used s ≡ true) → is_used s ≡ true
+    by_test true is rest = let same : e.1 ≡ s = cc in ap is_used (sym same) ∙ all.0
+    by_test false is rest = rest is
+
+-- what stands beside a hold stays
+used_after : (top : ℕ) (s : Slot) → is_used s ≡ true → (is_top top s.owner && not (is_some s.row)) ≡ false → is_used (slot_after_end top s) ≡ true
+used_after top s used more = by_test (is_top top s.owner) (is_some s.row) more used
+  where
+    by_test : (a b : Bool) → (a && not b) ≡ false → (is_some s.owner || b) ≡ true → (is_some (cond a None s.owner) || b) ≡ true
+    by_test true true more used = refl
+    by_test true false more used = absurd cc
+    by_test false b more used = used
+
+pub used_released : {A : Type 0} (top : ℕ) (key : List ℕ) (inside new : List (Vec ℕ A × Slot)) (es : Entries) (slot : Slot) → entries_of inside ≡ es →
+    Some slot ≡ lookup (λ k. pointwise nat_eq key k.items) inside → new ≡ set_value (λ k. pointwise nat_eq key k.items) inside (slot_after_end top slot) → AreUsed (entries_of inside) →
+    (is_top top (slot_at es key).owner && not (is_some (slot_at es key).row)) ≡ false → AreUsed (entries_of new)
+used_released top key inside new es slot shown found_is written all more =
+    let is = written_is top key inside new es slot shown found_is written in
+    let before : AreUsed es = subst AreUsed shown all in
+    subst AreUsed (sym is.2) (used_put key (slot_after_end top (slot_at es key)) es
+    (used_after top (slot_at es key) (ap is_used is.0 ∙ used_at es key slot before is.1) more) before)
 
 pub frees_none : {A : Type 0} (top : ℕ) (key : List ℕ) (inside new : List (Vec ℕ A × Slot)) (es : Entries) → entries_of inside ≡ es →
     None ≡ lookup (λ k. pointwise nat_eq key k.items) inside → new ≡ inside → Frees top key es (entries_of new)
@@ -261,7 +307,6 @@ frees_none top key inside new es shown found_is kept =
     let P : Entries → Type 0 = λ l. Frees top key es l in
     subst P (sym (ap entries_of kept ∙ shown)) (record {
       slots = λ j. by_test empty j (same_key j key) (keys_same j key);
-      places = λ us all. all;
       short = λ all. all;
     })
   where
@@ -270,6 +315,48 @@ frees_none top key inside new es shown found_is kept =
         let gone : slot_at es j ≡ vacant = ap (slot_at es) (same refl) ∙ empty in
         gone ∙ sym (ap (slot_after_end top) gone)
     by_test empty j false same = refl
+
+-- A PLACE THAT IS LET GO OF
+
+all_removed : {A : Type 0} (P : Vec ℕ A × Slot → Type 0) (t : Vec ℕ A → Bool) (es : List (Vec ℕ A × Slot)) → AllByRecursion P es → AllByRecursion P (swap_remove_entry t es)
+all_removed P t [] all = tt
+all_removed P t (e ∷ es) all = by_found (position t (keys_of (e ∷ es)))
+  where
+    by_found : (o : Option ℕ) → AllByRecursion P (option_map_or (λ i. swap_remove (e ∷ es) i e) o (e ∷ es))
+    by_found None = all
+    by_found (Some i) =
+        let last = get_or (e ∷ es) (length (e ∷ es) - 1) e in
+        let every : All P (e ∷ es) = All-from_recursion P (e ∷ es) all in
+        recursion_from_All P (swap_remove (e ∷ es) i e) (All-take P (length (e ∷ es) - 1) (set (e ∷ es) i last)
+        (All-set P (e ∷ es) i last (All-get_or P (e ∷ es) (length (e ∷ es) - 1) e (omega arith) every) every))
+
+of_entries : {A : Type 0} (P : List ℕ × Slot → Type 0) (es : List (Vec ℕ A × Slot)) → AllByRecursion P (entries_of es) → AllByRecursion (λ e. P (e.0.items, e.1)) es
+of_entries P [] all = tt
+of_entries P (e ∷ es) all = (all.0, of_entries P es all.1)
+
+to_entries : {A : Type 0} (P : List ℕ × Slot → Type 0) (es : List (Vec ℕ A × Slot)) → AllByRecursion (λ e. P (e.0.items, e.1)) es → AllByRecursion P (entries_of es)
+to_entries P [] all = tt
+to_entries P (e ∷ es) all = (all.0, to_entries P es all.1)
+
+pub all_left : {A : Type 0} (P : List ℕ × Slot → Type 0) (t : Vec ℕ A → Bool) (es new : List (Vec ℕ A × Slot)) → new ≡ swap_remove_entry t es → AllByRecursion P (entries_of es) →
+    AllByRecursion P (entries_of new)
+all_left P t es new left all =
+    to_entries P new (subst (AllByRecursion (λ e. P (e.0.items, e.1))) (sym left) (all_removed (λ e. P (e.0.items, e.1)) t es (of_entries P es all)))
+
+pub left_at : {A : Type 0} (key : List ℕ) (inside new : List (Vec ℕ A × Slot)) (es : Entries) (j : List ℕ) → entries_of inside ≡ es → lookup (λ k. pointwise nat_eq key k.items) new ≡ None →
+    KeepsOthers same_vec (λ k. pointwise nat_eq key k.items) inside new → slot_at (entries_of new) j ≡ cond (same_key j key) vacant (slot_at es j)
+unfolding KeepsOthers
+left_at {A} key inside new es j shown gone others = by_test (same_key j key) refl
+  where
+    apart : same_key j key ≡ false → (x : Vec ℕ A) → pointwise nat_eq key x.items ≡ true → pointwise nat_eq j x.items ≡ false
+    apart off x on = ap (same_key j) (sym (keys_same key x.items on)) ∙ off
+
+    by_test : (a : Bool) → same_key j key ≡ a → slot_at (entries_of new) j ≡ cond a vacant (slot_at es j)
+    by_test true on =
+        ap (slot_at (entries_of new)) (keys_same j key on) ∙ ap (λ (o : Option Slot). unwrap_or o vacant) (sym (found new key) ∙ gone)
+    by_test false off =
+        ap (λ (o : Option Slot). unwrap_or o vacant) (sym (found new j) ∙ others (λ k. pointwise nat_eq j k.items) (λ x y on. nat_list_eq_equiv.congr j x.items y.items on) (apart off) ∙ found inside j)
+        ∙ ap (λ (l : Entries). slot_at l j) shown
 
 -- one more of a change's places
 is_noted-last : (us : List Undo) (u : Undo) (j : List ℕ) (s t : Slot) → cond (is_noted j (us ++ u ∷ [])) s t ≡ cond (is_noted j us) s (cond (same_key j u.key) s t)

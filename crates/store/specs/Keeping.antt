@@ -12,7 +12,7 @@ use Rattle.tables.specs.declared.change.Change.{Change}
 use Rattle.tables.specs.declared.change.Change.TheVariants as changes
 use Rattle.store.specs.declared.store_fault.StoreFault.{StoreFault}
 use Rattle.store.specs.declared.store_fault.StoreFault.TheVariants as faults
-use Rattle.store.specs.Slots.{same_key, vacant, Entries, slot_at, slots_with, HavePlaces, undone_at}
+use Rattle.store.specs.Slots.{same_key, vacant, Entries, slot_at, slots_with, undone_at, CanUndo}
 use Rattle.tables.specs.Tables.{FitsChange}
 use Rattle.store.specs.Rows.{Key, key_text}
 use Rattle.store.specs.History.{Made, unless, is_top, is_other, owner_after_end, is_within, row_place, table_place}
@@ -64,17 +64,17 @@ noted_of top [] slots = []
 noted_of top (p ∷ ps) slots =
     record { key = p.0; before = slot_at slots p.0 } ∷ noted_of top ps (slots_with p.0 (record { row = p.1; owner = top }) slots)
 
--- the row goes, the holder stays
-abbrev pub without_row : Slot → Slot
-without_row slot = record slot { row = None }
+-- a row that is taken away is held; where none stands nothing changes
+abbrev pub emptied_slot : Option ℕ → Slot → Slot
+emptied_slot top slot = if is_some slot.row then record { row = None; owner = top } else slot
 
-abbrev pub slot_after_emptying : Change → List ℕ → Slot → Slot
-slot_after_emptying (changes.Truncate oids) place slot = if is_within oids place then without_row slot else slot
-slot_after_emptying change place slot = slot
+abbrev pub slot_after_emptying : Option ℕ → Change → List ℕ → Slot → Slot
+slot_after_emptying top (changes.Truncate oids) place slot = if is_within oids place then emptied_slot top slot else slot
+slot_after_emptying top change place slot = slot
 
 -- the slot at a place after a change, and after those of a history
 abbrev pub slot_by : List Table → Made → List ℕ → Slot → Slot
-slot_by tables m place slot = put_at m.top (puts_of tables m.change) place (slot_after_emptying m.change place slot)
+slot_by tables m place slot = put_at m.top (puts_of tables m.change) place (slot_after_emptying m.top m.change place slot)
 
 abbrev pub slot_from : List Table → List Made → List ℕ → Slot → Slot
 slot_from tables [] place slot = slot
@@ -104,9 +104,10 @@ touches tables change place = is_put place (puts_of tables change) || is_emptied
 
 -- JOURNALS
 
--- undoing a change leaves what stood before it, and concerns its places alone
+-- undoing a change leaves what stood before it, takes no memory, and concerns its places alone
 pub record IsUndo (tables : List Table) (m : Made) (before : List ℕ → Slot) (undos : List Undo) : Type 0 where
   pub restores : (place : List ℕ) → undone_at undos place (slot_by tables m place (before place)) ≡ before place
+  pub undoable : CanUndo undos (λ place. slot_by tables m place (before place))
   pub touched : AllByRecursion (λ u. touches tables m.change u.key ≡ true) undos
 
 abbrev pub OwnFirst : (List Undo → Type 0) → (List (List Undo) → Type 0) → Bool → List (List Undo) → Type 0
@@ -141,7 +142,6 @@ pub record Keeps (s : StoreState) (history : List Made) : Type 0 where
   pub stands : (place : List ℕ) → slot_at s.slots place ≡ slot_from s.tables history place vacant
   pub notes : (top : ℕ) → AreNotes s.tables top history nothing_at (journal_of top s.journals)
   pub apart : AreApart s.tables history
-  pub places : (top : ℕ) → AllByRecursion (HavePlaces s.slots) (journal_of top s.journals)
   pub short : AllByRecursion (λ e. length e.0 ≤ MAX_KEY_LENGTH) s.slots
   pub fits : AllByRecursion (λ m. FitsChange s.tables m.change) history
 
@@ -151,7 +151,6 @@ AreShort slots = AllByRecursion (λ e. length e.0 ≤ MAX_KEY_LENGTH) slots
 -- the same stands at each place
 pub record SameSlots (old new : Entries) : Type 0 where
   pub slots : (place : List ℕ) → slot_at new place ≡ slot_at old place
-  pub places : (undos : List Undo) → HavePlaces old undos → HavePlaces new undos
   pub short : AreShort old → AreShort new
 
 -- a transaction's rows were put, and noted in its journal

@@ -1,5 +1,5 @@
 -- What stands at each place of a store: at a key its row, and who holds it. Places are texts.
-use Rattle.std.specs.Prelude.{ℕ, Bool, nat_eq, List, [], ◌∷◌, None, IsSome, unwrap_or, Vec, if◌then◌else◌}
+use Rattle.std.specs.Prelude.{◌≡◌, ℕ, Bool, true, ◌||◌, nat_eq, List, [], ◌∷◌, None, is_some, unwrap_or, Vec, if◌then◌else◌}
 use Rattle.std.specs.Cmp.Lexicographic.{pointwise}
 use Rattle.std.specs.List.{AllByRecursion}
 use Rattle.std.specs.Map.{lookup}
@@ -29,19 +29,20 @@ slot_at slots key = unwrap_or (lookup (same_key key) slots) vacant
 abbrev pub slots_with : List ℕ → Slot → Entries → Entries
 slots_with key slot slots = insert_entry same_key slots key slot
 
--- the place that was changed has a slot, and so has each
-abbrev pub HasPlace : Entries → Undo → Type 0
-HasPlace slots u = IsSome (lookup (same_key u.key) slots)
+-- a transaction holds the place, or a row stands at it
+abbrev pub is_used : Slot → Bool
+is_used slot = is_some slot.owner || is_some slot.row
 
-abbrev pub HavePlaces : Entries → List Undo → Type 0
-HavePlaces slots undos = AllByRecursion (HasPlace slots) undos
+-- A store keeps no place that is vacant.
+abbrev pub AreUsed : Entries → Type 0
+AreUsed slots = AllByRecursion (λ e. is_used e.1 ≡ true) slots
 
--- the slots after a change is undone, the last of its places first
-abbrev pub slots_after_undo : Entries → List Undo → Entries
-slots_after_undo slots [] = slots
-slots_after_undo slots (u ∷ us) = slots_with u.key u.before (slots_after_undo slots us)
-
--- the slot at a place after that
+-- the slot at a place after a change is undone, the last of its places first
 abbrev pub undone_at : List Undo → List ℕ → Slot → Slot
 undone_at [] key slot = slot
 undone_at (u ∷ us) key slot = if same_key key u.key then u.before else undone_at us key slot
+
+-- A change can be undone without memory: each of its places is used when it is put back.
+abbrev pub CanUndo : List Undo → (List ℕ → Slot) → Type 0
+CanUndo [] at = Unit {0}
+CanUndo (u ∷ us) at = (is_used (undone_at us u.key (at u.key)) ≡ true) × CanUndo us at

@@ -49,29 +49,32 @@ impl Slots {
             ((place : List ℕ) →
             slot_at self.new place
             ≡ put_at (Some top) (all_emptied oids.now) place
-            (taken_at rows.now place (slot_at self.old place))) }
+            (taken_at top rows.now place (slot_at self.old place))) }
         ensures noted { (start : Entries) → AllByRecursion (IsOf oids.now start) rows.now →
             AreNoted oids.now start self.old undos.old.items →
             AreNoted oids.now start self.new undos.new.items }
     {
-        self.take_rows(undos, rows)?;
+        self.take_rows(undos, top, rows)?;
         self.hold_tables(undos, top, oids)
     }
 
-    /// Takes the rows at these places away. Their holders stay.
-    fn take_rows(&mut self, undos: &mut Vec<Undo>, rows: &[Items<u8>]) -> Result<(), AllocError>
+    /// Takes the rows at these places away, and holds the places for a transaction.
+    fn take_rows(
+        &mut self,
+        undos: &mut Vec<Undo>,
+        top: u32,
+        rows: &[Items<u8>],
+    ) -> Result<(), AllocError>
         ensures ok { OnOk result
             ((place : List ℕ) →
-            slot_at self.new place ≡ taken_at rows.now place (slot_at self.old place)) }
+            slot_at self.new place ≡ taken_at top rows.now place (slot_at self.old place)) }
         ensures noted { (oids : List ℕ) (start : Entries) →
             AllByRecursion (IsOf oids start) rows.now →
             AreNoted oids start self.old undos.old.items →
             AreNoted oids start self.new undos.new.items }
     {
         for row in rows {
-            let place = row.as_slice();
-            let owner = self.owner(place);
-            self.note(undos, owner, place, None)?;
+            self.note(undos, top, row.as_slice(), None)?;
         }
         Ok(())
     }
@@ -92,7 +95,7 @@ impl Slots {
     {
         for oid in oids {
             let table = Place::of_table(*oid);
-            self.note(undos, Some(top), table.as_bytes(), None)?;
+            self.note(undos, top, table.as_bytes(), None)?;
         }
         Ok(())
     }

@@ -3,7 +3,7 @@
 ghost use Rattle.std.specs.Prelude.{◌≡◌};
 ghost use Rattle.store.specs.History.{is_other};
 ghost use Rattle.store.specs.Keeping.{slot_after_end};
-ghost use Rattle.store.specs.Slots.{vacant};
+ghost use Rattle.store.specs.Slots.{is_used, vacant};
 
 use pqformat::Items;
 use tables::Row;
@@ -31,6 +31,13 @@ impl Slot {
             row: None,
             owner: None,
         }
+    }
+
+    /// Whether a transaction holds it or a row stands there.
+    pub fn is_used(&self) -> bool
+        ensures { result ≡ is_used self.now }
+    {
+        self.owner.is_some() || self.row.is_some()
     }
 
     /// Whether another transaction holds it.

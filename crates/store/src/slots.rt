@@ -1,11 +1,11 @@
 //! What stands at each place.
 
-ghost use Rattle.std.specs.Prelude.{List, ℕ, ◌≡◌, ◌≤◌, ◌++◌, ◌∷◌, [], IfOk, OnErr, OnOk, length, if◌then◌else◌};
+ghost use Rattle.std.specs.Prelude.{List, ℕ, ◌≡◌, ◌≤◌, ◌++◌, ◌∷◌, [], ◌&&◌, IfOk, OnErr, OnOk, false, is_some, length, not, true, if◌then◌else◌};
 ghost use Rattle.std.specs.Option.{option_copied};
 ghost use Rattle.store.specs.Emptying.{AreAtPlace, filled_within, is_other_within};
+ghost use Rattle.store.specs.History.{is_top};
 ghost use Rattle.store.specs.Keeping.{AreShort, SameSlots, is_in_journal, is_noted, noted_of, put_all, slot_after_end};
-ghost use Rattle.store.specs.Slots.{HasPlace, HavePlaces, same_key, slot_at, slots_after_undo, slots_with};
-ghost use Rattle.store.specs.declared.slot.Undo.{Undo as Noted};
+ghost use Rattle.store.specs.Slots.{AreUsed, CanUndo, is_used, same_key, slot_at, slots_with, undone_at, vacant};
 
 use crate::journals::Journal;
 use crate::key::{MAX_KEY_LENGTH, is_within};
@@ -16,19 +16,21 @@ use std::alloc::{AllocError, Global};
 use std::marker::Model;
 use tables::Row;
 
-/// The slots of a store, by the texts of their places. A place that was used keeps its slot. Contracts see the texts with
-/// their slots.
+/// The slots of a store, by the texts of their places. A place that becomes vacant is let go of. Contracts see the texts
+/// with their slots.
 #[derive(Drop)]
 pub struct Slots {
     by_place: IndexMap<Vec<u8>, Slot>,
 }
 
 impl Model for Slots {
-    ghost use Rattle.store.specs.Slots.{Entries, entries_of};
+    ghost use Rattle.store.specs.Slots.{AreUsed, Entries, entries_of};
 
     ghost Value = { Entries };
 
     ghost view = { λ s. entries_of s.by_place.entries };
+
+    ghost invariant = { λ s. AreUsed (entries_of s.by_place.entries) };
 }
 
 impl Slots {
@@ -75,7 +77,8 @@ impl Slots {
 
     /// The places of these tables at which a row stands. It goes through all places.
     pub fn rows_within(&self, oids: &[u32]) -> Result<Items<Items<u8>>, AllocError>
-        ensures { IfOk result (λ places. places ≡ filled_within oids.now self.now) }
+        ensures rows { IfOk result (λ places. places ≡ filled_within oids.now self.now) }
+        ensures places { OnOk result (AreAtPlace self.now) }
     {
         let alloc = *self.by_place.allocator();
         let mut places = Vec::new(alloc);
@@ -88,7 +91,8 @@ impl Slots {
     }
 
     /// Puts a slot at a place, and answers what stood there. Without memory nothing changes.
-    pub fn swap(&mut self, place: Vec<u8>, slot: Slot) -> Result<Slot, AllocError>
+    fn swap(&mut self, place: Vec<u8>, slot: Slot) -> Result<Slot, AllocError>
+        requires { is_used slot ≡ true }
         ensures ok { OnOk result (self.new ≡ slots_with place.items slot self.old) }
         ensures before { IfOk result (λ before. before ≡ slot_at self.old place.items) }
         ensures err { OnErr result (self.new ≡ self.old) }
@@ -101,7 +105,9 @@ impl Slots {
 
     /// Undoes a change, the last of its places first. It takes no memory.
     pub fn undo(&mut self, undos: Items<Undo>)
-        ensures { HavePlaces self.old undos → self.new ≡ slots_after_undo self.old undos }
+        ensures slots { CanUndo undos (slot_at self.old) → (place : List ℕ) →
+            slot_at self.new place ≡ undone_at undos place (slot_at self.old place) }
+        ensures short { CanUndo undos (slot_at self.old) → AreShort self.old → AreShort self.new }
     {
         let mut undos = undos.into_vec();
         while let Some(undo) = undos.pop() {
@@ -110,26 +116,44 @@ impl Slots {
     }
 
     fn put_back(&mut self, undo: Undo)
-        ensures { HasPlace self.old undo → self.new ≡ slots_with undo.key undo.before self.old }
+        ensures slots { is_used (slot_at self.old undo.key) ≡ true → (place : List ℕ) →
+            slot_at self.new place
+            ≡ (if same_key place undo.key then undo.before else slot_at self.old place) }
+        ensures short { is_used (slot_at self.old undo.key) ≡ true → AreShort self.old →
+            AreShort self.new }
     {
         let Undo { key, before } = undo;
+        if !before.is_used() {
+            self.let_go(key.as_slice());
+            return;
+        }
         match self.by_place.insert(key.into_vec(), before) {
             Ok(_) => {}
             Err(_) => {}
         }
     }
 
-    /// Puts a row, or none, at a place, with its holder, and notes after the others what stood there. Without memory
+    /// Nothing stands at a place any longer.
+    fn let_go(&mut self, place: &[u8])
+        ensures slots { (other : List ℕ) →
+            slot_at self.new other
+            ≡ (if same_key other place.now then vacant else slot_at self.old other) }
+        ensures short { AreShort self.old → AreShort self.new }
+    {
+        self.by_place.swap_remove(place);
+    }
+
+    /// Puts a row, or none, at a place for a transaction, and notes after the others what stood there. Without memory
     /// nothing changes.
     pub fn note(
         &mut self,
         undos: &mut Vec<Undo>,
-        owner: Option<u32>,
+        top: u32,
         place: &[u8],
         row: Option<Row>,
     ) -> Result<(), AllocError>
         ensures ok { OnOk result
-            (self.new ≡ slots_with place.now (record { row = row; owner = owner }) self.old) }
+            (self.new ≡ slots_with place.now (record { row = row; owner = Some top }) self.old) }
         ensures noted { OnOk result
             (undos.new.items
             ≡ undos.old.items ++ record { key = place.now; before = slot_at self.old place.now }
@@ -141,6 +165,7 @@ impl Slots {
         let name = Vec::from_slice(alloc, place)?;
         let key = Items::new(Vec::from_slice(alloc, place)?);
         undos.reserve(1)?;
+        let owner = Some(top);
         let before = self.swap(name, Slot { row, owner })?;
         undos.push_reserved(Undo { key, before });
         Ok(())
@@ -159,7 +184,7 @@ impl Slots {
         ensures err { OnErr result (SameSlots self.old self.new) }
     {
         let mut undos = Vec::with_capacity(*self.by_place.allocator(), 1)?;
-        self.note(&mut undos, Some(top), place, row)?;
+        self.note(&mut undos, top, place, row)?;
         Ok(Items::new(undos))
     }
 
@@ -180,8 +205,8 @@ impl Slots {
         ensures err { OnErr result (SameSlots self.old self.new) }
     {
         let mut undos = Vec::with_capacity(*self.by_place.allocator(), 2)?;
-        self.note(&mut undos, Some(top), from, None)?;
-        match self.note(&mut undos, Some(top), to, Some(row)) {
+        self.note(&mut undos, top, from, None)?;
+        match self.note(&mut undos, top, to, Some(row)) {
             Ok(()) => Ok(Items::new(undos)),
             Err(refused) => {
                 self.undo(Items::new(undos));
@@ -196,8 +221,6 @@ impl Slots {
             slot_at self.new place
             ≡ (if is_in_journal place journal then slot_after_end top (slot_at self.old place)
             else slot_at self.old place) }
-        ensures places { (others : List Noted) → HavePlaces self.old others →
-            HavePlaces self.new others }
         ensures short { AreShort self.old → AreShort self.new }
     {
         let mut journal = journal;
@@ -212,8 +235,6 @@ impl Slots {
             slot_at self.new place
             ≡ (if is_noted place undos then slot_after_end top (slot_at self.old place)
             else slot_at self.old place) }
-        ensures places { (others : List Noted) → HavePlaces self.old others →
-            HavePlaces self.new others }
         ensures short { AreShort self.old → AreShort self.new }
     {
         let mut undos = undos.into_vec();
@@ -227,8 +248,33 @@ impl Slots {
             slot_at self.new other
             ≡ (if same_key other place.now then slot_after_end top (slot_at self.old other)
             else slot_at self.old other) }
-        ensures places { (others : List Noted) → HavePlaces self.old others →
-            HavePlaces self.new others }
+        ensures short { AreShort self.old → AreShort self.new }
+    {
+        if self.is_only_held(top, place) {
+            self.let_go(place);
+        } else {
+            self.release(top, place);
+        }
+    }
+
+    /// Whether a transaction holds a place at which no row stands.
+    fn is_only_held(&self, top: u32, place: &[u8]) -> bool
+        ensures { result
+            ≡ (is_top top (slot_at self.now place.now).owner
+            && not (is_some (slot_at self.now place.now).row)) }
+    {
+        self.owner(place) == Some(top) && self.row(place).is_none()
+    }
+
+    /// A place at which something else stands is no longer the transaction's.
+    fn release(&mut self, top: u32, place: &[u8])
+        requires { (is_top top (slot_at self.old place.now).owner
+            && not (is_some (slot_at self.old place.now).row))
+            ≡ false }
+        ensures slots { (other : List ℕ) →
+            slot_at self.new other
+            ≡ (if same_key other place.now then slot_after_end top (slot_at self.old other)
+            else slot_at self.old other) }
         ensures short { AreShort self.old → AreShort self.new }
     {
         if let Some(slot) = self.by_place.get_mut(place) {

@@ -7,7 +7,7 @@ ghost use Rattle.store.specs.Keeping.{AreShort, DeletesAt, IsSame, Keeps, Makes,
 ghost use Rattle.store.specs.Emptying.{Does};
 ghost use Rattle.store.specs.History.{Made, change_made, count_of, delete_fault, delete_refusal, history_after_end, history_after_rollback, insert_fault, insert_refusal, is_other, row_place, rows_after, table_place, truncate_refusal, unless, update_fault, update_refusal, Deletes, Updates};
 ghost use Rattle.store.specs.Rows.{key_of, key_text};
-ghost use Rattle.store.specs.Slots.{HavePlaces, same_key, slot_at, slots_after_undo};
+ghost use Rattle.store.specs.Slots.{CanUndo, same_key, slot_at, undone_at};
 ghost use Rattle.tables.specs.Spelling.{IsShort};
 ghost use Rattle.tables.specs.Tables.{FitsRow, FitsChange};
 
@@ -318,8 +318,12 @@ impl Store {
             ≡ (if top == x then journal_of x self.old.journals ++ undos ∷ []
             else journal_of x self.old.journals)) }
         ensures undone { OnErr result
-            (HavePlaces self.old.slots undos
-            → self.new.slots ≡ slots_after_undo self.old.slots undos) }
+            (CanUndo undos (slot_at self.old.slots) → (place : List ℕ) →
+            slot_at self.new.slots place
+            ≡ undone_at undos place (slot_at self.old.slots place)) }
+        ensures short { OnErr result
+            (CanUndo undos (slot_at self.old.slots) → AreShort self.old.slots →
+            AreShort self.new.slots) }
         ensures same { OnErr result
             ((x : ℕ) → journal_of x self.new.journals ≡ journal_of x self.old.journals) }
     {

@@ -51,14 +51,17 @@ With --json each message is an object of JSON, as in wal2json's format-version 2
 
 each on one line. Members are wal2json's but for these: timestamp counts microseconds since
 2000-01-01; identity is what was sent of the old row; lsn stands on each change too; typeoid is of a
-type whose name isn't known, contenthex of content that isn't UTF-8. The last line, summary, stands
-where the stream ends, and the next run on FILE cuts it off. What FILE holds has to be in the same
-form.
+type whose name isn't known, contenthex of content that isn't UTF-8. With --send-times each line of
+action C, and each message outside of a transaction, has sent too: what the server's clock said as it
+sent that, in microseconds since 2000-01-01. The last line, summary, stands where the stream ends,
+and the next run on FILE cuts it off. What FILE holds has to be in the same form.
 
-A server that asks for a password gets the proof of PGPASSWORD, or else of the first line of the
---password-file that fits, as in ~/.pgpass: hostname:port:database:username:password, where user and
-database are subcat, and * fits all. The proof is SCRAM-SHA-256, of a password in ASCII, and the
-server has to prove that it knows the password too. FILE may be read by its owner alone.
+The user is --user, or else PGUSER, or else subcat; its database has the same name. A server that asks
+for a password gets the proof of PGPASSWORD, or else of the first line that fits of the
+--password-file, or else of the file PGPASSFILE, or else of ~/.pgpass: a line is
+hostname:port:database:username:password, and * fits all. The proof is SCRAM-SHA-256, and the server
+has to prove that it knows the password too. A file may be read by its owner alone; another
+--password-file is refused, and another PGPASSFILE is told and not used.
 
 It ends with 0 after COUNT transactions, with 2 where the arguments are refused, and with 1
 where the connection, the server, the output or memory fails, or the server is another system. What
@@ -71,7 +74,9 @@ pub struct Words<'a> {
     pub follow: bool,
     pub json: bool,
     pub messages: bool,
+    pub send_times: bool,
     pub output: Option<&'a str>,
+    pub user: Option<&'a str>,
     pub password_file: Option<&'a str>,
     pub address: &'a str,
     pub slot: &'a str,
@@ -153,7 +158,11 @@ fn command_of<'a>(alloc: Global) -> Result<Command<'a>, AllocError> {
 }
 
 fn with_files<'a>(alloc: Global, command: Command<'a>) -> Result<Command<'a>, AllocError> {
-    command.arg(output(alloc)?)?.arg(password_file(alloc)?)
+    command
+        .arg(output(alloc)?)?
+        .arg(send_times(alloc)?)?
+        .arg(user(alloc)?)?
+        .arg(password_file(alloc)?)
 }
 
 fn output(alloc: Global) -> Result<Arg<'static>, AllocError> {
@@ -163,6 +172,22 @@ fn output(alloc: Global) -> Result<Arg<'static>, AllocError> {
         .action(ArgAction::Set)
         .help("With --follow, print into FILE, and go on where it ends")
         .requires_arg("follow")
+}
+
+fn send_times(alloc: Global) -> Result<Arg<'static>, AllocError> {
+    Arg::new(alloc, "send-times")
+        .long("send-times")
+        .action(ArgAction::SetTrue)
+        .help("With --json, print when the server sent each transaction")
+        .requires_arg("json")
+}
+
+fn user(alloc: Global) -> Result<Arg<'static>, AllocError> {
+    let arg = Arg::new(alloc, "user")
+        .long("user")
+        .value_name("NAME")
+        .action(ArgAction::Set);
+    Ok(arg.help("Connect as this user"))
 }
 
 fn password_file(alloc: Global) -> Result<Arg<'static>, AllocError> {
@@ -180,7 +205,9 @@ fn words_in<'a>(matches: &ArgMatches<'a>) -> Words<'a> {
         follow: matches.get_flag("follow"),
         json: matches.get_flag("json"),
         messages: matches.get_flag("messages"),
+        send_times: matches.get_flag("send-times"),
         output: matches.get_str("output"),
+        user: matches.get_str("user"),
         password_file: matches.get_str("password-file"),
         address: matches.get_str("ADDR").unwrap_or(""),
         slot: matches.get_str("SLOT").unwrap_or(""),

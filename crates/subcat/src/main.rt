@@ -1,4 +1,4 @@
-//! `subcat [--create] [--json] [--messages] [--password-file FILE] [--follow [--output FILE]] ADDR SLOT POSITION PUBLICATIONS COUNT`
+//! `subcat [--create] [--json [--send-times]] [--messages] [--user NAME] [--password-file FILE] [--follow [--output FILE]] ADDR SLOT POSITION PUBLICATIONS COUNT`
 //! follows a slot of a publisher, and prints each message of its stream, or, over lost connections, each transaction once.
 //!
 //! `command.rt` reads the command line, `printout.rt` follows once, `keeping.rt` follows for good, with a `Journal` as its
@@ -21,7 +21,8 @@ use command_line::{address_of, arguments_of, count_of, ended};
 use fault::Fault;
 use follower::{Form, Options, follow};
 use keeping::{keep_in, keep_printing};
-use password::password_of;
+use password::{password_of, user_of};
+use password_file::Place;
 use printout::Printout;
 use replcmd::parse_position;
 use std::alloc::Global;
@@ -52,8 +53,14 @@ fn run_called<N: Net<Listener = TcpListener, Stream = TcpStream> + Wait + Clock 
 ) -> Result<(), Fault> {
     let words = words_of(rt.alloc(), arguments)?;
     let address = address_of(words.address)?;
-    let password = password_of(rt, words.password_file, words.address)?;
-    let options = options_of(&words, password.as_ref().map(|p| p.as_slice()))?;
+    let user = user_of(rt, words.user)?;
+    let place = Place::of(words.address, user.as_str());
+    let password = password_of(rt, words.password_file, &place)?;
+    let options = options_of(
+        &words,
+        user.as_str(),
+        password.as_ref().map(|p| p.as_slice()),
+    )?;
     match words.output {
         Some(path) => keep_in(rt, net, address, &options, path),
         None if words.follow => keep_printing(rt, net, address, &options),
@@ -85,7 +92,11 @@ fn follow_into<
     follow(net, alloc, &mut socket, options, output).map_err(Fault::Follow)
 }
 
-fn options_of<'a>(words: &Words<'a>, password: Option<&'a [u8]>) -> Result<Options<'a>, Fault> {
+fn options_of<'a>(
+    words: &Words<'a>,
+    user: &'a str,
+    password: Option<&'a [u8]>,
+) -> Result<Options<'a>, Fault> {
     Ok(Options {
         create: words.create,
         slot: words.slot,
@@ -94,6 +105,8 @@ fn options_of<'a>(words: &Words<'a>, password: Option<&'a [u8]>) -> Result<Optio
         messages: words.messages,
         count: count_in(words.count)?,
         form: if words.json { Form::Json } else { Form::Text },
+        send_times: words.send_times,
+        user,
         password,
     })
 }

@@ -2,28 +2,22 @@
 
 use std::alloc::{AllocError, Global};
 
-/// The user that connects, and its database, which has the same name unless it is told.
-const USER: &[u8] = b"subcat";
-
-/// Where somebody connects, as a line names it.
+/// Who connects where, as a line names it. The database of a user has the same name.
 #[derive(Clone, Copy)]
 pub struct Place<'a> {
     host: &'a [u8],
     port: &'a [u8],
+    user: &'a [u8],
 }
 
 impl<'a> Place<'a> {
-    /// That of an address and a port.
-    pub fn of(address: &'a str) -> Self {
-        match address.rsplit_once(':') {
-            Some((host, port)) => Place {
-                host: without_brackets(host).as_bytes(),
-                port: port.as_bytes(),
-            },
-            None => Place {
-                host: address.as_bytes(),
-                port: b"",
-            },
+    /// That of an address and a port, for this user.
+    pub fn of(address: &'a str, user: &'a str) -> Self {
+        let (host, port) = address.rsplit_once(':').unwrap_or((address, ""));
+        Place {
+            host: without_brackets(host).as_bytes(),
+            port: port.as_bytes(),
+            user: user.as_bytes(),
         }
     }
 }
@@ -67,8 +61,8 @@ fn fitting<'a>(line: &'a [u8], place: &Place<'_>) -> Option<&'a [u8]> {
     }
     let line = behind(line, place.host)?;
     let line = behind(line, place.port)?;
-    let line = behind(line, USER)?;
-    behind(line, USER)
+    let line = behind(line, place.user)?;
+    behind(line, place.user)
 }
 
 /// What follows a field and its colon, where the field is this value, or `*`.

@@ -60,7 +60,7 @@ fn short_len(row: &Row) -> usize
     }
 }
 
-/// Adds the change's body, or, where memory is refused, nothing.
+/// Adds the change's body. `AllocError` where memory is refused; nothing is added then.
 pub fn write_body(change: &Change, out: &mut BytesMut) -> Result<(), AllocError>
     requires { IsShort change.now }
     ensures ok { OnOk result (out.new.items ≡ out.old.items ++ spell_body change.now) }

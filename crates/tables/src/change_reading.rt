@@ -15,8 +15,10 @@ use crate::row_reading::row_of;
 use pqformat::{Cursor, Items};
 use std::alloc::Global;
 
-/// The change whose body these bytes are. The leftmost fault is answered, unless memory is refused before it, which can
-/// only be where there is something to keep.
+/// The change whose body these bytes are. The leftmost fault is answered: `Short` where the bytes end too early, `UnknownTag`
+/// at a tag that no change and no value has, `BadBool` at a bool that is neither 0 nor 1, `BadText` at a text that isn't UTF-8,
+/// `Trailing` at bytes after the body. Or `Memory`, where memory is refused before it, which can only be where there is
+/// something to keep.
 pub fn read_body(alloc: Global, bytes: &[u8]) -> Result<Change, BodyFault>
     ensures found { IfOk result (λ c. SpellsBody bytes.now c) }
     ensures only { (c : Changed) → SpellsBody bytes.now c → Gives result [] (Ok (c, [])) }

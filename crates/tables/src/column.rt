@@ -17,6 +17,7 @@ pub struct Column {
 }
 
 impl Column {
+    /// A copy; `AllocError` where memory for it is refused.
     pub fn copy(&self, alloc: Global) -> Result<Self, AllocError>
         ensures { IfOk result (λ c. c ≡ self.now) }
     {

@@ -75,7 +75,7 @@ pub const INT2_TAG: u8 = 5;
 pub const UUID_TAG: u8 = 6;
 
 impl Kind {
-    /// The kind of this name in a configuration.
+    /// The kind of this name in a configuration. None where none has it.
     pub fn named(name: &str) -> Option<Kind>
         ensures { result ≡ kind_named name.now }
     {
@@ -134,6 +134,7 @@ pub fn is_without_zero(text: &[u8]) -> bool
 }
 
 impl Value {
+    /// A copy; `AllocError` where memory for it is refused.
     pub fn copy(&self, alloc: Global) -> Result<Self, AllocError>
         ensures { IfOk result (λ v. v ≡ self.now) }
     {

@@ -30,6 +30,7 @@ pub struct Message {
 }
 
 impl Message {
+    /// A message of copies of both; `AllocError` where memory for them is refused.
     pub fn copy_of(alloc: Global, prefix: &str, content: &[u8]) -> Result<Self, AllocError>
         ensures { IfOk result (λ m. (m.prefix ≡ prefix.now) × (m.content ≡ content.now)) }
     {

@@ -45,6 +45,7 @@ impl Row {
         self.values.as_slice()
     }
 
+    /// A copy; `AllocError` where memory for it is refused.
     pub fn copy(&self, alloc: Global) -> Result<Self, AllocError>
         ensures { IfOk result (λ r. r ≡ self.now) }
     {

@@ -96,7 +96,7 @@ impl<'a> RowRef<'a> {
         self.count + self.values.len()
     }
 
-    /// The value in the column at this place.
+    /// The value in the column at this place; None where the row has no such column.
     #[tactic(auto, using(crate::proofs::Lent::gets))]
     pub fn get(&self, place: usize) -> Option<ValueRef<'a>>
         ensures { option_map value_of result ≡ slice_get self.now place }

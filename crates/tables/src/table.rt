@@ -30,6 +30,7 @@ pub struct Table {
 }
 
 impl Table {
+    /// A copy; `AllocError` where memory for it is refused.
     pub fn copy(&self, alloc: Global) -> Result<Self, AllocError>
         ensures { IfOk result (λ t. t ≡ self.now) }
     {

@@ -19,7 +19,8 @@ pub fn uuid_of_halves(high: u64, low: u64) -> u128
     u128::from(high) * (1 << 64) + u128::from(low)
 }
 
-/// The UUID of a text in its plain form, as `6ba7b810-9dad-11d1-80b4-00c04fd430c8`, in either case.
+/// The UUID of a text in its plain form, as `6ba7b810-9dad-11d1-80b4-00c04fd430c8`, in either case. None of other texts, even
+/// in the other forms that PostgreSQL takes (PostgreSQL 15, 8.12).
 #[tactic(auto, unfolding(crate::specs::Kinds::uuid_of_text))]
 pub fn uuid_of_text(text: &[u8]) -> Option<u128>
     ensures { result ≡ uuid_of_text text.now }

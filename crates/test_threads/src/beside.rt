@@ -1,14 +1,10 @@
 //! A server, and beside it whoever talks to it.
 
-use hub::{Hub, ServerObserver, serve};
+use hub::{Hub, ServerHost, ServerObserver, serve};
 use shared_log::LogName;
 use slots::SlotName;
-use std::net::{Net, SocketAddr, TcpListener, TcpStream};
-use std::random::RandomSource;
-use std::sync::Wait;
+use std::net::{SocketAddr, TcpListener};
 use std::test::Fail;
-use std::thread::Threads;
-use std::time::Clock;
 use std::{io, thread};
 
 /// Serves so many connections, and calls the clients with the address meanwhile. It returns once all connections have ended.
@@ -21,12 +17,7 @@ pub fn serve_beside<L, R, G, C, T>(
 ) -> Result<T, Fail>
 where
     L: LogName + SlotName + Send + Sync,
-    R: Net<Listener = TcpListener, Stream = TcpStream>
-        + Threads
-        + Wait
-        + Clock
-        + RandomSource
-        + Sync,
+    R: ServerHost,
     G: ServerObserver + Sync,
     C: FnOnce(SocketAddr) -> io::Result<T>,
     T: Drop,

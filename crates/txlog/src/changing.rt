@@ -34,7 +34,9 @@ struct Changing {
 }
 
 impl<L: LogName> Publisher<L> {
-    /// Inserts a row. S14, S1, S2, S6, S5, S3, S7, S11 in this order.
+    /// Inserts a row. Refused in this order: `NoTransaction` (S14), `UnknownTable` (S1), `RowShape` (S2) where the row doesn't
+    /// fit the table, `TooLarge` (S6), `KeyHeld` (S5) where another transaction holds its key or the table, `DuplicateKey`
+    /// (S3), `LogFull` (S7), `Memory` (S11).
     pub fn insert<R: Wait>(
         &mut self,
         rt: &R,
@@ -55,8 +57,10 @@ impl<L: LogName> Publisher<L> {
         }
     }
 
-    /// Puts a row in the place of the one with this key, whose key it may change. S14, S1, S2, S6, S5, S4, S3, S7, S11 in this
-    /// order.
+    /// Puts a row in the place of the one with this key, whose key it may change. Refused in this order: `NoTransaction` (S14),
+    /// `UnknownTable` (S1), `RowShape` (S2) where the key or the row doesn't fit the table, `TooLarge` (S6), `KeyHeld` (S5)
+    /// where another transaction holds one of the two keys or the table, `NoSuchRow` (S4), `DuplicateKey` (S3), `LogFull` (S7),
+    /// `Memory` (S11).
     pub fn update<R: Wait>(
         &mut self,
         rt: &R,
@@ -80,7 +84,9 @@ impl<L: LogName> Publisher<L> {
         }
     }
 
-    /// Deletes the row with this key. S14, S1, S2, S5, S4, S7, S11 in this order.
+    /// Deletes the row with this key. Refused in this order: `NoTransaction` (S14), `UnknownTable` (S1), `RowShape` (S2) where
+    /// the key doesn't fit the table, `KeyHeld` (S5) where another transaction holds it or the table, `NoSuchRow` (S4),
+    /// `LogFull` (S7), `Memory` (S11).
     pub fn delete<R: Wait>(
         &mut self,
         rt: &R,
@@ -103,7 +109,9 @@ impl<L: LogName> Publisher<L> {
         }
     }
 
-    /// Empties tables, and holds them. S14, S1, S2, S6, S5, S7, S11 in this order.
+    /// Empties tables, and holds them. Refused in this order: `NoTransaction` (S14), `UnknownTable` (S1), `RowShape` (S2) where
+    /// no table is named or one twice, `TooLarge` (S6) where too many are, `KeyHeld` (S5) where another transaction holds one
+    /// of them or a key there, `LogFull` (S7), `Memory` (S11).
     pub fn truncate<R: Wait>(
         &mut self,
         rt: &R,
@@ -124,7 +132,8 @@ impl<L: LogName> Publisher<L> {
         }
     }
 
-    /// Writes a message, which is the transaction's as a change of it is, and changes no row. S14, S13, S6, S7, S11 in this order.
+    /// Writes a message, which is the transaction's as a change of it is, and changes no row. Refused in this order:
+    /// `NoTransaction` (S14), `BadPrefix` (S13), `TooLarge` (S6) where its content is, `LogFull` (S7), `Memory` (S11).
     pub fn message<R: Wait>(
         &mut self,
         rt: &R,
@@ -201,11 +210,13 @@ fn write<L: LogName, R: Wait>(
     ensures tables { store.new.tables ≡ store.old.tables }
 {
     if at.room == 0 {
+        // Let go by one call, which keeps the proof short.
         drop(change);
         store.undo_to(at.xid, at.mark);
         return Err(SessionFault::LogFull);
     }
     let pushed = push(log, rt, at, &change);
+    // Let go before the ways out, which keeps the proof short.
     drop(change);
     match pushed {
         Ok(()) => Ok(()),

@@ -25,8 +25,8 @@ impl<L: LogName> Publisher<L> {
     }
 }
 
-/// From where the first `count` records of a log are kept for a slot that is confirmed at this position. None: the log lets the reader
-/// not in, or what the slot needs was given back.
+/// From where the first `count` records of a log are kept for a slot that is confirmed at this position. None where the log
+/// doesn't let the reader in, and where what the slot needs was given back.
 pub fn kept_place<L: LogName>(
     reader: &mut LogReader<L>,
     confirmed: u64,

@@ -20,8 +20,9 @@ use tables::{Change, Message};
 use wal::LoggedChange;
 
 impl<L: LogName> Publisher<L> {
-    /// Writes a message outside of all transactions, and answers the position where its record starts. S13, S6, S7, S11 in this
-    /// order. Streams send it whatever transactions do, as PostgreSQL does with a message that is not transactional.
+    /// Writes a message outside of all transactions, and answers the position where its record starts. Refused in this order:
+    /// `BadPrefix` (S13), `TooLarge` (S6) where its content is, `LogFull` (S7), `Memory` (S11). Streams send it whatever
+    /// transactions do, as PostgreSQL does with a message that is not transactional (PostgreSQL 15, 9.27.6).
     pub fn note<R: Wait>(
         &mut self,
         rt: &R,
@@ -63,6 +64,7 @@ fn push<L: LogName, R: Wait>(
 {
     let change = Change::Message(message);
     let logged = LoggedChange::of(alloc, &change);
+    // Let go before the ways out, which keeps the proof short.
     drop(change);
     let receipt = log.push_note(rt, logged?)?;
     Ok(receipt.start)

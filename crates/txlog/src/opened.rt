@@ -22,7 +22,7 @@ pub struct Opened {
 }
 
 impl Opened {
-    /// For a log of this many records, and this many readers. S12 unless there are 1 to 2,048.
+    /// For a log of this many records, and this many readers. `NoReader` (S12) unless there are 1 to 2,048.
     pub fn new(
         alloc: Global,
         catalog: Catalog,
@@ -38,7 +38,7 @@ impl Opened {
         Opened::over(alloc, shared_log::Opened::new(), catalog, records, readers)
     }
 
-    /// The same over a history that is there, so that whoever made it may name the log.
+    /// The same over a history that is there, so that whoever made it may name the log. `NoReader` (S12) as there.
     pub fn over(
         alloc: Global,
         history: shared_log::Opened,

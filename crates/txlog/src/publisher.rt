@@ -31,9 +31,10 @@ use wal::{Body, FIRST_XID};
 /// A session calls `begin` and gets a `Tx`. With it, in any order, it calls `insert`, `update`, `delete`, `savepoint`,
 /// `rollback_to` and `release`, and last `commit`, `abort` or `leave`, which take the `Tx`. Sessions may take turns, call by call.
 ///
-/// Ok means that the one record of the call stands at the log's end; `begin`, `release` and `leave` write none. An error
-/// means that nothing has changed, so the call may be made again: S11 is want of memory, S7 a full log, S14 a `Tx` that is not
-/// live in this log, and the others say what is wrong with the call. `get`, `end` and `tell` may be called at any time.
+/// Ok means that the one record of the call stands at the log's end; `begin`, `release` and `leave` write none. An error means
+/// that nothing has changed, so the call may be made again: `Memory` (S11) is want of memory, `LogFull` (S7) a full log,
+/// `NoTransaction` (S14) a `Tx` that is not live in this log, and the others say what is wrong with the call. `get`, `end` and
+/// `tell` may be called at any time.
 ///
 /// It isn't `Drop`: `close` ends it.
 pub struct Publisher<L: LogName> {
@@ -73,7 +74,7 @@ impl<L: LogName> Model for Publisher<L> {
 impl<L: LogName> Publisher<L> {
     ghost use Rattle.shared_log.specs.Readers.{seen_of};
 
-    /// A publisher of an empty log, and its readers. Where memory is refused, nothing is left of it.
+    /// A publisher of an empty log, and its readers. `Memory` (S11) where memory is refused; nothing is left of it then.
     pub fn open<R: Wait>(rt: &R, opened: Opened) -> Result<(Self, Vec<LogReader<L>>), SessionFault>
         requires name { opened.history.seen.book ≡ L.book }
         ensures ok { IfOk result (λ made. made.0 ≡ new_publisher opened.catalog opened.capacity) }
@@ -169,7 +170,8 @@ impl<L: LogName> Publisher<L> {
         self.capacity = MOST_RECORDS.min(self.capacity + more);
     }
 
-    /// The row with this key, committed or not. The key's values stand in table order.
+    /// The row with this key, committed or not. The key's values stand in table order. None where there is no such row, or no
+    /// such table.
     pub fn get(&self, oid: u32, key: &Row) -> Option<&Row>
         ensures row { option_copied result
             ≡ rows_of self.now.tables self.now.log (record { oid = oid; values = key.now }) }
@@ -185,7 +187,7 @@ impl<L: LogName> Publisher<L> {
         self.capacity - (self.log.count() + self.live.len())
     }
 
-    /// A new transaction. S10 where 256 are live, then S7 without room, then S11.
+    /// A new transaction. Refused in this order: `TooManyLive` (S10) where 256 are live, `LogFull` (S7), `Memory` (S11).
     pub fn begin(&mut self) -> Result<Tx, SessionFault>
         ensures ok { IfOk result
             (λ tx. (tx ≡ self.old.next_xid) × (self.new ≡ after_begin self.old)) }
@@ -205,7 +207,7 @@ impl<L: LogName> Publisher<L> {
         Ok(Tx::new(xid))
     }
 
-    /// Commits the transaction. It is never refused for room; S14 and S11 give it back.
+    /// Commits the transaction. It is never refused for room; `NoTransaction` (S14) and `Memory` (S11) give it back.
     pub fn commit<R: Wait>(
         &mut self,
         rt: &R,
@@ -233,7 +235,7 @@ impl<L: LogName> Publisher<L> {
         Ok(Receipt::new(told, xid))
     }
 
-    /// Aborts the transaction. It is never refused for room; S14 and S11 give it back.
+    /// Aborts the transaction. It is never refused for room; `NoTransaction` (S14) and `Memory` (S11) give it back.
     pub fn abort<R: Wait>(&mut self, rt: &R, tx: Tx) -> Result<(), (Tx, SessionFault)>
         ensures ok { OnOk result (self.new ≡ after_abort tx self.old) }
         ensures err { IfErr result (λ back. (back.0 ≡ tx) × (self.new ≡ self.old)) }
@@ -255,7 +257,8 @@ impl<L: LogName> Publisher<L> {
         Ok(())
     }
 
-    /// Sets a savepoint, and answers its depth. S14, S9 at depth 16, S7, S11 in this order.
+    /// Sets a savepoint, and answers its depth. Refused in this order: `NoTransaction` (S14), `TooDeep` (S9) at depth 16,
+    /// `LogFull` (S7), `Memory` (S11).
     pub fn savepoint<R: Wait>(&mut self, rt: &R, tx: &mut Tx) -> Result<u32, SessionFault>
         ensures depth { IfOk result
             (λ depth. depth ≡ length (savepoints_of tx.old self.old.live) + 1) }
@@ -307,7 +310,8 @@ impl<L: LogName> Publisher<L> {
         Ok(depth)
     }
 
-    /// Rolls back to the savepoint of this depth, 1 for the outermost, and closes it. S14, S8, S7, S11 in this order.
+    /// Rolls back to the savepoint of this depth, 1 for the outermost, and closes it. Refused in this order: `NoTransaction`
+    /// (S14), `NoSavepoint` (S8), `LogFull` (S7), `Memory` (S11).
     pub fn rollback_to<R: Wait>(
         &mut self,
         rt: &R,
@@ -351,7 +355,8 @@ impl<L: LogName> Publisher<L> {
         Ok(savepoints[depth - 1])
     }
 
-    /// Releases the savepoint of this depth, 1 for the outermost, and those above. S14, S8 in this order.
+    /// Releases the savepoint of this depth, 1 for the outermost, and those above. Refused in this order: `NoTransaction`
+    /// (S14), `NoSavepoint` (S8).
     pub fn release(&mut self, tx: &mut Tx, depth: u32) -> Result<(), SessionFault>
         ensures ok { OnOk result (self.new ≡ after_release tx.old depth self.old) }
         ensures err { OnErr result (self.new ≡ self.old) }

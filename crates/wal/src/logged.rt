@@ -32,7 +32,7 @@ impl Model for LoggedChange {
 }
 
 impl LoggedChange {
-    /// The change, which is known to be one that a record can hold.
+    /// The change, which is known to be one that a record can hold. `AllocError` where memory for it is refused.
     pub fn of(alloc: Global, change: &Change) -> Result<Self, AllocError>
         requires short { IsShort change.now }
         requires coded { IsCoded change.now }

@@ -19,7 +19,7 @@ use Rattle.pgoutput.specs.Items.{relations_sent_by_all}
 use Rattle.walsender.specs.Published.{published_changes}
 use Rattle.walsender.specs.Waiting.{AreSelected, AreWithin, Makes, bytes_behind, bytes_left, changes_bytes, commit_bytes, left_of, places, ready_states, sent_behind}
 use Rattle.walsender.specs.Lent.{LentTransaction}
-use Rattle.walsender.specs.Outgoing.{HoldsSame, IsFilled, IsOutgoing, frames_left, held_behind, held_of, lent_in, lent_of, sent_of}
+use Rattle.walsender.specs.Outgoing.{HoldsSame, IsFilled, IsOutgoing, IsSameQueue, frames_left, held_behind, held_of, lent_in, lent_of, sent_of}
 use Rattle.walsender.specs.declared.outgoing.Outgoing.{Outgoing}
 use Rattle.walsender.specs.declared.outgoing.TheConstants.{FRAMES_LENGTH}
 use Rattle.walsender.specs.declared.committed_transaction.CommittedTransaction.{CommittedTransaction}
@@ -67,6 +67,10 @@ mid_length a k xs ys within is =
 pub first_is : (ws : List CommittedTransaction) (w : CommittedTransaction) → 0 < length ws → w ≡ get_or ws 0 w → (rest : List CommittedTransaction) × (ws ≡ w ∷ rest) × ((y : CommittedTransaction) → slice_set ws 0 y ≡ y ∷ rest)
 first_is [] w some is = absurd (omega arith)
 first_is (x ∷ xs) w some is = (xs, ap (λ (y : CommittedTransaction). y ∷ xs) (sym is), λ y. refl)
+
+pub first_of : (ws : List CommittedTransaction) → 0 < length ws → (w : CommittedTransaction) × (rest : List CommittedTransaction) × (ws ≡ w ∷ rest)
+first_of [] some = absurd (omega arith)
+first_of (w ∷ ws) some = (w, ws, refl)
 
 abbrev pub less : CommittedTransaction → ℕ → CommittedTransaction
 less w count = record w { before = w.before - count }
@@ -296,4 +300,19 @@ first_over selection s s' o o' w good is none over room comes back made placed r
         lent_in pool.arena w ∷ [],
         ap (map (lent_in pool.arena)) is ∙ ap (λ (l : List LentTransaction). lent_in pool.arena w ∷ l) (sym (lents_same pool.arena pool'.arena ws (chunks_each_given_back s s' w.ready (ready_states ws) lent back))),
       );
+    }
+
+-- memory for frames was asked for, and for what was sent: the queue is as it was
+pub queue_kept : (o p o' : Outgoing) → p ≡ record o { frames = p.frames } → o' ≡ record p { made = o'.made; relations_sent = o'.relations_sent } → o'.relations_sent.items ≡ p.relations_sent.items
+    → vec_capacity p.relations_sent ≤ vec_capacity o'.relations_sent → IsSameQueue o o'
+queue_kept o p o' rest last items capacity =
+    let same = ap (λ (q : Outgoing). vec_capacity q.relations_sent) rest in
+    record {
+      front = ap (λ (q : Outgoing). q.front.items) last ∙ ap (λ (q : Outgoing). q.front.items) rest;
+      from = ap (λ (q : Outgoing). q.from) last ∙ ap (λ (q : Outgoing). q.from) rest;
+      to = ap (λ (q : Outgoing). q.to) last ∙ ap (λ (q : Outgoing). q.to) rest;
+      waiting = ap (λ (q : Outgoing). q.waiting.items) last ∙ ap (λ (q : Outgoing). q.waiting.items) rest;
+      placed = ap (λ (q : Outgoing). q.placed) last ∙ ap (λ (q : Outgoing). q.placed) rest;
+      sent = items ∙ ap (λ (q : Outgoing). q.relations_sent.items) rest;
+      capacity = omega (arith, same, capacity);
     }

@@ -33,6 +33,17 @@ pub record Turns (clock : ℤ) (old new : SenderState) (place moved_to : ℕ) (s
   pub refused : (e : SendFault) → r ≡ Err (turns.Sender e) → IsRefused clock old new (fetched_from place seen) e
   pub silent : has_written r ≡ false → after ≡ before
 
+pub turns_so : {clock : ℤ} {old new : SenderState} {place moved_to : ℕ} {seen : List Record} {before after : Option (List ℕ)} {r : Result ℕ TurnFault}
+    → (has_fetched r ≡ true → moved_to ≡ place + length (fetched_from place seen))
+    → (has_fetched r ≡ true → IsWellFormedLog seen)
+    → (has_fetched r ≡ false → (moved_to ≡ place) × (new ≡ old))
+    → OnOk r ((bytes : List ℕ) × ReadAndGave clock old new (fetched_from place seen) bytes × (new.held ≡ []) × Appends before after bytes)
+    → ((e : Error) → r ≡ Err (turns.Write e) → (bytes : List ℕ) × ReadAndGave clock old new (fetched_from place seen) bytes × (0 < length new.held) × Appends before after bytes)
+    → ((e : SendFault) → r ≡ Err (turns.Sender e) → IsRefused clock old new (fetched_from place seen) e)
+    → (has_written r ≡ false → after ≡ before)
+    → Turns clock old new place moved_to seen before after r
+turns_so moved good unfetched sent broken refused silent = record { moved = moved; good = good; unfetched = unfetched; sent = sent; broken = broken; refused = refused; silent = silent }
+
 -- a turn that went well wrote what was held before all that it read
 pub held_first : (clock : ℤ) (old new : SenderState) (place : ℕ) (early seen : List Record) (before after : Option (List ℕ)) (written bytes : List ℕ) → IsPrefix early seen → IsWellFormedLog seen
     → ReadAndGave clock old new (fetched_from place seen) bytes → new.held ≡ [] → Appends before after bytes → IsServing early place written old → (more : List ℕ) × Appends before after (old.held ++ more)

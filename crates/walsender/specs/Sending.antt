@@ -1,6 +1,6 @@
 -- A sender between its calls, and what reading records does to it. The records may be those of a whole log or of a section of
 -- one, which begins after earlier records of its transactions.
-use Rattle.std.specs.Prelude.{◌≡◌, ◌⊎◌, ◌+◌, ◌<◌, ℕ, ℤ, Bool, true, false, List, [], ◌∷◌, ◌++◌, length, take, map, filter, nat_le, slice_get, sum_by, Option, Some, None, if◌then◌else◌}
+use Rattle.std.specs.Prelude.{◌≡◌, ◌⊎◌, ◌+◌, ◌<◌, ℕ, ℤ, Bool, true, false, List, [], ◌∷◌, ◌++◌, length, take, map, filter, nat_le, slice_get, sum_by, Option, Some, None, option_map, option_to_list, if◌then◌else◌}
 use Rattle.std.specs.List.{AllByRecursion}
 use Rattle.publication.specs.Publications.{PublicationSet}
 use Rattle.wal.specs.declared.record.Record.{Record}
@@ -15,7 +15,8 @@ use Rattle.pgoutput.specs.Items.{Item, Block, FitsPublished, bytes_of_items, rel
 use Rattle.walsender.specs.declared.fault.SendFault.{SendFault}
 use Rattle.walsender.specs.declared.fault.SendFault.TheVariants.{ArenaFull, Memory}
 use Rattle.walsender.specs.Lent.{AreHeld, AreLastOf, LentTransaction, lent_with, sent_transactions}
-use Rattle.walsender.specs.Published.{published_transactions, published_as, published_from, published_note, has_message}
+use Rattle.walsender.specs.Published.{published_transactions, published_as, published_from, published_note, published_with, has_message}
+use Rattle.walsender.specs.declared.header.Header.{Header}
 
 -- what determines the bytes to come
 pub record SenderState : Type 0 where
@@ -110,6 +111,10 @@ published_quietly selection s start end _ = []
 abbrev pub published_by_record : PublicationSet → ℕ → Record → Option (List Entry) → List Published
 published_by_record selection s r None = published_quietly selection s r.start r.end r.body
 published_by_record selection s r (Some entries) = filter has_message (map (published_as selection) (ready_at s r.start r.end r.body entries))
+
+-- under which header a record publishes what it made ready, if it does
+abbrev pub IsHeaderOf : PublicationSet → ℕ → Record → List Entry → Option Header → Type 0
+IsHeaderOf selection s r entries header = option_to_list (option_map (published_with selection entries) header) ≡ published_by_record selection s r (Some entries)
 
 -- the transaction that a record sends by what it made ready, with the chunks that its changes fill
 abbrev pub sent_by_record : PublicationSet → ℕ → Record → Option (List Entry) → List LentTransaction

@@ -1,5 +1,5 @@
 -- What a sender has still to make into bytes: the changes of committed transactions and their Commits, between bytes that are made already.
-use Rattle.std.specs.Prelude.{◌≡◌, ◌≤◌, ℕ, ℤ, ◌+◌, ◌-◌, false, List, [], ◌∷◌, ◌++◌, drop, length, map, take, IsSome}
+use Rattle.std.specs.Prelude.{◌≡◌, ◌≤◌, ℕ, ℤ, ◌+◌, ◌-◌, false, List, [], ◌∷◌, ◌++◌, drop, length, map, reverse, take, IsSome}
 use Rattle.std.specs.List.{AllByRecursion}
 use Rattle.std.specs.Int.{w64, cast_unsigned}
 use Rattle.pqformat.specs.Fields.{int32, int64}
@@ -86,3 +86,7 @@ frame_head position clock length =
 pub record Makes (selection : PublicationSet) (clock : ℤ) (here next : List PublishedChange) (sent sent' made : List ℕ) : Type 0 where
   pub bytes : changes_bytes selection sent clock here ≡ made ++ changes_bytes selection sent' clock next
   pub names : relations_sent_by_all sent here ≡ relations_sent_by_all sent' next
+
+-- the same of what is left of a transaction, where the Relations that were sent stand last first
+abbrev pub MakesOf : PublicationSet → PoolState → CommittedTransaction → CommittedTransaction → (sent sent' made : List ℕ) → Type 0
+MakesOf selection pool old new sent sent' made = Makes selection old.clock (left_of selection pool old) (left_of selection pool new) (reverse sent) (reverse sent') made

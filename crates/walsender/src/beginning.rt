@@ -20,19 +20,21 @@ pub trait StartBackend {
 
     ghost told: { Self → Question → Self → Type 0 };
 
-    /// The slot that the stream is for, if it is there.
+    /// The slot that the stream is for; None where it isn't there.
     fn find_slot(&mut self) -> Option<Self::Slot>
         ensures { told self.old (FindsSlot (is_some result)) self.new };
 
-    /// Whether its publications can be selected: P1 where one is unknown, P2 where their lists differ. It takes no memory.
+    /// Whether its publications can be selected: `Unknown` (P1) where one is unknown, `ListConflict` (P2) where their lists
+    /// differ. It takes no memory.
     fn judge(&mut self) -> Result<(), PubFault>
         ensures { told self.old (Judges (fault_of result)) self.new };
 
-    /// A reader that no stream has.
+    /// A reader that no stream has; None where there is none.
     fn take_reader(&mut self) -> Option<Self::Reader>
         ensures { told self.old (TakesReader (is_some result)) self.new };
 
-    /// Claims the slot, and then makes what needs memory. Where it is refused, the reader is free again, and so is the slot.
+    /// Claims the slot, and then makes what needs memory; or answers why not. Where it is refused, the reader is free again,
+    /// and so is the slot.
     fn claim(&mut self, slot: Self::Slot, reader: Self::Reader) -> Result<Self::Grant, ClaimFault>
         ensures { told self.old (Claims (fault_of result)) self.new };
 }
@@ -61,8 +63,9 @@ pub enum StartFault {
     Claim(ClaimFault),
 }
 
-/// Begins a stream, or answers the first of the refusals in their order: there is no such slot, a publication is unknown, lists
-/// differ, no reader is free, the slot is held; and want of memory last. Nothing is asked after a refusal.
+/// Begins a stream, or answers the first of the refusals in their order: `NoSlot` (L1) where there is no such slot,
+/// `Publication` where one is unknown (P1) or lists differ (P2), `NoReader` (L6) where no reader is free, and then `Claim`,
+/// where the slot is held (L2), the log doesn't give what is needed, or memory is refused. Nothing is asked after a refusal.
 pub fn begin<D: StartBackend>(backend: &mut D) -> Result<D::Grant, StartFault>
     ensures { AreAsked D.told backend.old (questions result) backend.new }
 {

@@ -1,6 +1,6 @@
 //! Frames of what is held, made as they go out.
 
-ghost use Rattle.std.specs.Prelude.{◌≡◌, ◌+◌, ◌<◌, ◌≤◌, ◌++◌, ◌∷◌, [], List, MatchBool, drop, length, take};
+ghost use Rattle.std.specs.Prelude.{◌≡◌, ◌+◌, ◌-◌, ◌<◌, ◌≤◌, ◌++◌, ◌∷◌, [], ℕ, List, MatchBool, drop, length, nat_lt, take};
 ghost use Rattle.walsender.specs.declared.committed_transaction.CommittedTransaction.{CommittedTransaction};
 ghost use Rattle.walsender.specs.Outgoing.{HoldsSame, IsFilled, IsOutgoing, held_of};
 
@@ -75,34 +75,87 @@ impl Outgoing {
             ((self.new.to ≡ self.old.to)
             × (length self.old.frames.items < self.old.to + MAX_FRAME_LENGTH)) }
     {
-        let room = self.frames.len() - self.to;
-        let Some(waiting) = self.waiting.front_mut() else {
-            return false;
-        };
-        if waiting.before > 0 {
-            let count = waiting.before.min(room);
-            waiting.before -= count;
-            self.placed -= count;
+        let before = self.bytes_before_first();
+        if before > 0 {
+            let count = before.min(self.frames.len() - self.to);
+            self.pass_before_first(count);
             self.move_made(count);
             return true;
         }
-        let end = self.to + room.min(MAX_FRAME_LENGTH);
-        let count = next_frame(
-            selection,
-            reorder,
-            waiting,
-            &mut self.relations_sent,
-            &mut self.frames[self.to..end],
-        );
-        self.to += count;
-        if count > 0 {
+        if self.put_first(selection, reorder) > 0 {
             return true;
         }
-        if waiting.next < waiting.ready.count() {
+        if self.has_changes_left() {
             return false;
         }
         self.finish_first(selection, reorder);
         true
+    }
+
+    /// How many bytes that are made stand before the first transaction that waits.
+    fn bytes_before_first(&self) -> usize
+        ensures { (w : CommittedTransaction) (ws : List CommittedTransaction) → self.now.waiting.items ≡ w ∷ ws →
+            result ≡ w.before }
+    {
+        match self.waiting.front() {
+            Some(waiting) => waiting.before,
+            None => 0,
+        }
+    }
+
+    /// So many fewer stand there.
+    fn pass_before_first(&mut self, count: usize)
+        requires there { (w : CommittedTransaction) (ws : List CommittedTransaction) → self.old.waiting.items ≡ w ∷ ws →
+            count ≤ w.before }
+        requires placed { count ≤ self.old.placed }
+        ensures waiting { (w : CommittedTransaction) (ws : List CommittedTransaction) → self.old.waiting.items ≡ w ∷ ws →
+            self.new.waiting.items ≡ record w { before = w.before - count } ∷ ws }
+        ensures rest { self.new
+            ≡ record self.old { waiting = self.new.waiting; placed = self.old.placed - count } }
+    {
+        if let Some(waiting) = self.waiting.front_mut() {
+            waiting.before -= count;
+        }
+        self.placed -= count;
+    }
+
+    /// Makes the next frame of the first transaction that waits, and answers how long it is: 0 where no change of it is left that has
+    /// one, and where it may not have room.
+    fn put_first(&mut self, selection: &Selection, reorder: &Reorder) -> usize
+        requires good { IsOutgoing selection.now reorder.now self.old }
+        requires room { self.old.to + LEAST_ROOM ≤ length self.old.frames.items }
+        requires waits { 0 < length self.old.waiting.items }
+        requires first { (w : CommittedTransaction) (ws : List CommittedTransaction) → self.old.waiting.items ≡ w ∷ ws →
+            w.before ≡ 0 }
+        ensures same { HoldsSame selection.now reorder.now reorder.now self.old self.new }
+        ensures frames { IsFilled self.old self.new }
+        ensures moved { self.new.to ≡ self.old.to + result }
+        ensures waits { 0 < length self.new.waiting.items }
+        ensures first { (w : CommittedTransaction) (ws : List CommittedTransaction) → self.new.waiting.items ≡ w ∷ ws →
+            w.before ≡ 0 }
+        ensures over { (w : CommittedTransaction) (ws : List CommittedTransaction) → self.new.waiting.items ≡ w ∷ ws →
+            result ≡ 0 → self.new.to + MAX_FRAME_LENGTH ≤ length self.new.frames.items →
+            length w.ready.places ≤ w.next }
+    {
+        let end = self.to + (self.frames.len() - self.to).min(MAX_FRAME_LENGTH);
+        let Some(waiting) = self.waiting.front_mut() else {
+            return 0;
+        };
+        let out = &mut self.frames[self.to..end];
+        let count = next_frame(selection, reorder, waiting, &mut self.relations_sent, out);
+        self.to += count;
+        count
+    }
+
+    /// Whether a change of the first transaction that waits is left.
+    fn has_changes_left(&self) -> bool
+        ensures { (w : CommittedTransaction) (ws : List CommittedTransaction) → self.now.waiting.items ≡ w ∷ ws →
+            result ≡ nat_lt w.next (length w.ready.places) }
+    {
+        match self.waiting.front() {
+            Some(waiting) => waiting.next < waiting.ready.count(),
+            None => false,
+        }
     }
 
     /// Makes the Commit of the first transaction that waits, of which no change is left. What was ready goes back, and it waits no more.

@@ -9,7 +9,7 @@ ghost use Rattle.publication.specs.Selection.{relation, selected_oids, selected_
 ghost use Rattle.pgoutput.specs.Items.{is_relation_sent, relations_due};
 ghost use Rattle.reorder.specs.Ready.{IsReadyIn};
 ghost use Rattle.walsender.specs.Spelled.{oids_in};
-ghost use Rattle.walsender.specs.Waiting.{AreSelected, Makes, frame_head, left_of};
+ghost use Rattle.walsender.specs.Waiting.{AreSelected, MakesOf, frame_head};
 
 use crate::committed_transaction::CommittedTransaction;
 use crate::named::named_in;
@@ -44,11 +44,8 @@ pub(crate) fn next_frame(
     requires bounded { length out.old ≤ MAX_FRAME_LENGTH }
     requires sent { AreSelected selection.now (reverse relations_sent.old.items) }
     requires capacity { length (selected_oids selection.now) ≤ vec_capacity relations_sent.old }
-    ensures makes { Makes selection.now waiting.old.clock
-        (left_of selection.now reorder.now.strands.pool waiting.old)
-        (left_of selection.now reorder.now.strands.pool waiting.new)
-        (reverse relations_sent.old.items) (reverse relations_sent.new.items)
-        (take result out.new) }
+    ensures makes { MakesOf selection.now reorder.now.strands.pool waiting.old waiting.new
+        relations_sent.old.items relations_sent.new.items (take result out.new) }
     ensures within { result ≤ length out.new }
     ensures over { result ≡ 0 → MAX_FRAME_LENGTH ≤ length out.new →
         length waiting.new.ready.places ≤ waiting.new.next }
@@ -82,11 +79,8 @@ fn frame_at_next(
     requires bounded { length out.old ≤ MAX_FRAME_LENGTH }
     requires sent { AreSelected selection.now (reverse relations_sent.old.items) }
     requires capacity { length (selected_oids selection.now) ≤ vec_capacity relations_sent.old }
-    ensures makes { Makes selection.now waiting.old.clock
-        (left_of selection.now reorder.now.strands.pool waiting.old)
-        (left_of selection.now reorder.now.strands.pool waiting.new)
-        (reverse relations_sent.old.items) (reverse relations_sent.new.items)
-        (take result out.new) }
+    ensures makes { MakesOf selection.now reorder.now.strands.pool waiting.old waiting.new
+        relations_sent.old.items relations_sent.new.items (take result out.new) }
     ensures within { result ≤ length out.new }
     ensures moves { result ≡ 0 → (waiting.new.next ≡ waiting.old.next + 1)
         ⊎ ((waiting.new.next ≡ waiting.old.next) × (length out.new < MAX_FRAME_LENGTH)) }

@@ -1,6 +1,6 @@
-//! What a commit publishes, change by change, straight from where the changes lie.
+//! What a commit publishes, change by change (PostgreSQL 15, 55.5.3), straight from where the changes lie.
 
-ghost use Rattle.std.specs.Prelude.{◌≡◌, ℕ, ◌+◌, ◌<◌, ◌≤◌, ◌==◌, ◌^◌, ◌++◌, ◌∷◌, [], List, None, FitsSigned, IfOk, IfSome, MatchBool, OnErr, OnOk, Some, drop, length, map, not, option_map, option_to_list, vec_len};
+ghost use Rattle.std.specs.Prelude.{◌≡◌, ℕ, ◌+◌, ◌<◌, ◌≤◌, ◌==◌, ◌^◌, ◌++◌, ◌∷◌, [], List, None, FitsSigned, IfOk, IfSome, MatchBool, OnErr, OnOk, Some, drop, length, map, not, vec_len};
 ghost use Rattle.std.specs.Int.{w64};
 ghost use Rattle.std.specs.List.{AllByRecursion};
 ghost use Rattle.wal.specs.declared.record.Record.{Record as Logged};
@@ -11,7 +11,7 @@ ghost use Rattle.reorder.specs.Ready.{IsReadyIn, ready_entries};
 ghost use Rattle.reorder.specs.Settled.{AreLentIn, after_giving_all_back, ready_chunks};
 ghost use Rattle.reorder.specs.Taking.{HasTaken, ReorderState, readied_changes};
 ghost use Rattle.walsender.specs.Published.{published_changes, published_note, published_with};
-ghost use Rattle.walsender.specs.Sending.{published_by_record};
+ghost use Rattle.walsender.specs.Sending.{IsHeaderOf, published_by_record};
 ghost use Rattle.walsender.specs.Spelled.{Yields};
 ghost use Rattle.walsender.specs.Waiting.{ready_states, ready_states_with};
 ghost use Rattle.walsender.specs.Lent.{lent_with};
@@ -209,12 +209,8 @@ fn judge(
     ready: &mut CommittedChanges,
 ) -> Option<Header>
     requires held { IsReadyIn reorder.now.strands.pool ready.old }
-    ensures value { option_to_list
-        (option_map
-        (published_with selection.now (ready_entries reorder.now.strands.pool ready.old))
-        result)
-        ≡ published_by_record selection.now start next.now
-        (Some (ready_entries reorder.now.strands.pool ready.old)) }
+    ensures value { IsHeaderOf selection.now start next.now
+        (ready_entries reorder.now.strands.pool ready.old) result }
     ensures fit { AllByRecursion (FitsPublished (relation selection.now))
         (published_by_record selection.now start next.now
         (Some (ready_entries reorder.now.strands.pool ready.old))) }
@@ -233,12 +229,8 @@ fn header_of(
     ready: &mut CommittedChanges,
 ) -> Option<Header>
     requires held { IsReadyIn reorder.now.strands.pool ready.old }
-    ensures value { option_to_list
-        (option_map
-        (published_with selection.now (ready_entries reorder.now.strands.pool ready.old))
-        result)
-        ≡ published_by_record selection.now start next.now
-        (Some (ready_entries reorder.now.strands.pool ready.old)) }
+    ensures value { IsHeaderOf selection.now start next.now
+        (ready_entries reorder.now.strands.pool ready.old) result }
     ensures numbers { IfSome result
         (λ h. (h.start < 2 ^ 64) × (h.end < 2 ^ 64) × FitsSigned w64 h.time × (h.xid < 2 ^ 32)) }
     ensures ready { ready.new ≡ ready.old }

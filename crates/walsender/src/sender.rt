@@ -26,10 +26,10 @@ use wal::Record;
 /// `start` makes a sender. Then, in any order and any number of times: `feed` reads the next records, `keepalive` adds a
 /// keepalive, `drain` and `drain_into` move held bytes out. `into_selection` ends it.
 ///
-/// Of `feed`, Ok means that all records were read. G4 means that they don't stand at `position()`, one after the other: none
-/// was read, and the right ones may come next. G1 is a full arena and G2 want of memory: the records up to `position()` were
-/// read, and the sender has failed. A failed sender can still be drained; its `feed` and its `keepalive` are G3. A `keepalive`
-/// that is G2 has added nothing, and may be called again.
+/// Of `feed`, Ok means that all records were read. `Gap` (G4) means that they don't stand at `position()`, one after the other:
+/// none was read, and the right ones may come next. `ArenaFull` (G1) is a full arena and `Memory` (G2) want of memory: the
+/// records up to `position()` were read, and the sender has failed. A failed sender can still be drained; its `feed` and its
+/// `keepalive` are `Failed` (G3). A `keepalive` that is `Memory` has added nothing, and may be called again.
 #[derive(Drop)]
 pub struct Sender {
     pub(crate) selection: Selection,
@@ -73,6 +73,8 @@ impl Sender {
     /// A later `first` drops what stands before it. Of a transaction in progress there, only the changes from `first` on are
     /// sent when it commits, and none of a subtransaction that began before `first`, or of one under it. So `first` stands at
     /// or before the first record of every transaction that is to be sent whole.
+    ///
+    /// It is never refused.
     pub fn start(
         alloc: Global,
         selection: Selection,
@@ -101,7 +103,8 @@ impl Sender {
         })
     }
 
-    /// Reads records. What they publish is held from then on, under this clock. Judged in this order: G3, G4, then G1 and G2.
+    /// Reads records. What they publish is held from then on, under this clock. Judged in this order: `Failed` (G3), `Gap`
+    /// (G4), then `ArenaFull` (G1) and `Memory` (G2).
     pub fn feed(&mut self, records: &[Arc<Record>], clock: i64) -> Result<(), SendFault>
         ensures ok { OnOk result (ReadAll clock self.old self.new (shared_records records.now)) }
         ensures running { OnOk result (self.new.failed ≡ false) }
@@ -131,7 +134,8 @@ impl Sender {
         self.take_all(records, clock)
     }
 
-    /// Holds a keepalive with the sender's position after all that is held.
+    /// Holds a keepalive with the sender's position after all that is held. `Failed` (G3) where the sender has failed, `Memory`
+    /// (G2); nothing is added then.
     pub fn keepalive(&mut self, clock: i64, ask: bool) -> Result<(), SendFault>
         ensures ok { OnOk result
             (self.new
@@ -164,8 +168,8 @@ impl Sender {
         self.outgoing.drain(&self.selection, &mut self.reorder, out)
     }
 
-    /// Moves up to `max` held bytes to the end of `out`, or, where there is no memory for them, nothing. Frames may have been made
-    /// meanwhile, so that chunks are free.
+    /// Moves up to `max` held bytes to the end of `out`. `AllocError` where memory for them is refused; nothing is moved then.
+    /// Frames may have been made meanwhile, so that chunks are free.
     pub fn drain_into(&mut self, max: usize, out: &mut BytesMut) -> Result<(), AllocError>
         ensures moved { OnOk result (out.new.items ≡ out.old.items ++ take max self.old.held) }
         ensures rest { OnOk result

@@ -28,9 +28,10 @@ use std::io::{ErrorKind, Write};
 /// Fetches records, feeds them under this clock, and writes all that the sender holds, what it held before first. It answers
 /// how many records it fetched: 0 where the reader has come to the end of what it sees.
 ///
-/// U4 and U3 come from the fetch, and change nothing but what the reader has seen. At U1 the reader has moved on after the
-/// records that the sender refused, and nothing was written. At U2 the writer took a beginning of what was held, and the rest
-/// is held still; the connection is over. Any error of the writer is U2, and so is a write that takes no bytes. It doesn't flush.
+/// `NoEntry` and `Stale` (U4), `Memory` (U3) and `Removed` (U5) come from the fetch, and change nothing but what the reader has
+/// seen. At `Sender` (U1) the reader has moved on after the records that the sender refused, and nothing was written. At
+/// `Write` (U2) the writer took a beginning of what was held, and the rest is held still; the connection is over. Any error of
+/// the writer is `Write`, and so is a write that takes no bytes. It doesn't flush.
 pub fn turn<L: LogName, W: Write>(
     alloc: Global,
     sender: &mut Sender,
@@ -71,6 +72,7 @@ pub fn turn<L: LogName, W: Write>(
     let records = reader.fetch(alloc, TURN_RECORDS)?;
     let count = records.len();
     let fed = sender.feed(records.as_slice(), clock);
+    // Let go before the ways out, which keeps the proof short.
     drop(records);
     fed?;
     sender.write_held(out)?;
@@ -78,7 +80,7 @@ pub fn turn<L: LogName, W: Write>(
 }
 
 impl Sender {
-    /// Writes what is held. Where the writer fails or takes no bytes, the rest is held still.
+    /// Writes what is held. Where the writer fails, or takes no bytes (`WriteZero`), the rest is held still.
     pub fn write_held<W: Write>(&mut self, out: &mut W) -> io::Result<()>
         ensures ok { OnOk result (self.new.held ≡ []) }
         ensures err { OnErr result (0 < length self.new.held) }

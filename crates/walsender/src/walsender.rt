@@ -99,7 +99,8 @@ impl<L: LogName> Walsender<L> {
     }
 
     /// Reads up to `max` records of the log, and answers what the sender made of them. Where the log gives none, nothing has
-    /// changed; where the sender refuses them, the reader stands after them.
+    /// changed but what the reader has seen: `NoEntry` or `Stale` (E1), `Memory` (E2), `Removed` (E3). Where the sender refuses
+    /// them, as `Sender::feed` does, the reader stands after them.
     pub fn read(
         &mut self,
         alloc: Global,
@@ -130,7 +131,7 @@ impl<L: LogName> Walsender<L> {
         Ok(self.sender.feed(records.as_slice(), clock))
     }
 
-    /// Reads on, and writes all that is held, as `crate::turn` does.
+    /// Reads on, and writes all that is held, as `crate::turn` does. It fails as that does (U1 to U5).
     pub fn turn<W: Write>(
         &mut self,
         alloc: Global,
@@ -161,7 +162,8 @@ impl<L: LogName> Walsender<L> {
         turn(alloc, &mut self.sender, &mut self.reader, clock, to)
     }
 
-    /// Holds a keepalive with the position up to which was read, after all that is held.
+    /// Holds a keepalive with the position up to which was read, after all that is held. `Failed` (G3) where the sender has
+    /// failed, `Memory` (G2); nothing is added then.
     pub fn keepalive(&mut self, clock: i64, ask: bool) -> Result<(), SendFault>
         ensures ok { OnOk result
             (self.new.sender
@@ -179,7 +181,7 @@ impl<L: LogName> Walsender<L> {
         self.sender.keepalive(clock, ask)
     }
 
-    /// Writes what is held. Where the writer fails or takes no bytes, the rest is held still.
+    /// Writes what is held. Where the writer fails, or takes no bytes (`WriteZero`), the rest is held still.
     pub fn write_held<W: Write>(&mut self, to: &mut W) -> io::Result<()>
         ensures ok { OnOk result (self.new.sender.held ≡ []) }
         ensures err { OnErr result (0 < length self.new.sender.held) }
@@ -194,7 +196,7 @@ impl<L: LogName> Walsender<L> {
         self.sender.write_held(to)
     }
 
-    /// Moves up to `max` held bytes to the end of `out`, or, where there is no memory for them, nothing.
+    /// Moves up to `max` held bytes to the end of `out`. `AllocError` where memory for them is refused; nothing is moved then.
     pub fn drain_into(&mut self, max: usize, out: &mut BytesMut) -> Result<(), AllocError>
         ensures moved { OnOk result
             (out.new.items ≡ out.old.items ++ take max self.old.sender.held) }

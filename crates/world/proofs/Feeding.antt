@@ -74,6 +74,24 @@ pub record IsFed (log : List Record) (from : ℕ) (selection : PublicationSet) (
   pub taken : sub.applier.fault ≡ None → HasTaken base sub.applier (take sub.delivered l.produced)
   pub back : AllByRecursion (λ (t : Status). t.flushed ≤ sub.applier.subscriber.position) sub.back
 
+-- the subscriber went on, over the same start
+pub fed_further : {log : List Record} {from : ℕ} {selection : PublicationSet} {s : List ℕ} {begun : Option (ℕ × List Published)} {l : StartState} {sub : SubscriberState} (new : SubscriberState) (fed : IsFed log from selection s begun l sub)
+    → new.slot ≡ sub.slot → new.delivered ≤ length l.produced → (new.applier.fault ≡ None → HasTaken fed.base new.applier (take new.delivered l.produced))
+    → AllByRecursion (λ (t : Status). t.flushed ≤ new.applier.subscriber.position) new.back → IsFed log from selection s begun l new
+fed_further new fed slot within taken back = record {
+  base = fed.base;
+  stood = fed.stood;
+  rests = fed.rests;
+  settled = fed.settled;
+  later = fed.later;
+  asked = fed.asked;
+  selects = fed.selects;
+  streams = slot ∙ fed.streams;
+  within = within;
+  taken = taken;
+  back = back;
+}
+
 -- ---- The start produces more.
 
 pub fed_produced : (log : List Record) (from : ℕ) (selection : PublicationSet) (s : List ℕ) (begun : Option (ℕ × List Published)) (l new : StartState) (more : List ℕ) (sub : SubscriberState) → new.start ≡ l.start → new.selection ≡ l.selection → new.produced ≡ l.produced ++ more
@@ -169,19 +187,9 @@ delivered_sound log from selection s begun l old after n taken_once r good begin
     let raised = takes_raises old.applier after bytes r takes in
     record {
       settled = subst (λ (x : PublicationSet). IsSettled log from x after.subscriber) fed.selects settled;
-      fed = record {
-        base = fed.base;
-        stood = fed.stood;
-        rests = fed.rests;
-        settled = fed.settled;
-        later = fed.later;
-        asked = fed.asked;
-        selects = fed.selects;
-        streams = fed.streams;
-        within = omega (arith, fed.within, length-take n (drop d p), length-drop d p);
-        taken = λ whole. subst (HasTaken fed.base after) (next_taken d n p) (taken_by (relation l.selection) fed.base old.applier after bytes all stream.items r plain ends whole);
-        back = all_when (λ (t : Status). t.flushed ≤ old.applier.subscriber.position) (λ (t : Status). t.flushed ≤ after.subscriber.position) (λ t le. omega (arith, le, raised)) old.back fed.back;
-      };
+      fed = fed_further _ fed refl (omega (arith, fed.within, length-take n (drop d p), length-drop d p))
+          (λ whole. subst (HasTaken fed.base after) (next_taken d n p) (taken_by (relation l.selection) fed.base old.applier after bytes all stream.items r plain ends whole))
+          (all_when (λ (t : Status). t.flushed ≤ old.applier.subscriber.position) (λ (t : Status). t.flushed ≤ after.subscriber.position) (λ t le. omega (arith, le, raised)) old.back fed.back);
       raised = raised;
     }
 
@@ -196,19 +204,9 @@ delivered_stopped log from selection s begun l old after n taken_once fault r se
     let same : after ≡ old.applier = plain.1 in
     record {
       settled = subst (λ (a : ApplierState). IsSettled log from selection a.subscriber) (sym same) settled;
-      fed = record {
-        base = fed.base;
-        stood = fed.stood;
-        rests = fed.rests;
-        settled = fed.settled;
-        later = fed.later;
-        asked = fed.asked;
-        selects = fed.selects;
-        streams = fed.streams;
-        within = omega (arith, fed.within, length-take n (drop d p), length-drop d p);
-        taken = λ whole. let never : Option.Some fault ≡ Option.None = sym stopped ∙ ap (λ (a : ApplierState). a.fault) (sym same) ∙ whole in absurd cc;
-        back = subst (λ (a : ApplierState). AllByRecursion (λ (t : Status). t.flushed ≤ a.subscriber.position) old.back) (sym same) fed.back;
-      };
+      fed = fed_further _ fed refl (omega (arith, fed.within, length-take n (drop d p), length-drop d p))
+          (λ whole. let never : Option.Some fault ≡ Option.None = sym stopped ∙ ap (λ (a : ApplierState). a.fault) (sym same) ∙ whole in absurd cc)
+          (subst (λ (a : ApplierState). AllByRecursion (λ (t : Status). t.flushed ≤ a.subscriber.position) old.back) (sym same) fed.back);
       raised = omega (arith, ap (λ (a : ApplierState). a.subscriber.position) same);
     }
 

@@ -31,7 +31,7 @@ use Rattle.world.proofs.Machines.{is_closed, is_cut, kept_slots, kept_subscriber
 use Rattle.world.proofs.Inside.{same_inside}
 use Rattle.world.proofs.Lookups as look
 use Rattle.world.proofs.Lookups.{IsAlone, named_so, other_name}
-use Rattle.world.proofs.Feeding.{BeginsIn, IsAtRest, IsFed, delivered, fed_begun, fed_produced}
+use Rattle.world.proofs.Feeding.{BeginsIn, IsAtRest, IsFed, delivered, fed_begun, fed_further, fed_produced}
 use Rattle.world.proofs.OnceSteps.{IsBefore, IsMine, IsNotOn, IsOnce, acts_keep, own_subscriber, started_or, where_done}
 use Rattle.world.proofs.Settled.{IsSettled, settled_new}
 
@@ -150,19 +150,7 @@ own_status log c s wanted from begun flushed clock old a new once step fair =
     let P : WorldState → Type 0 = λ w. IsOnce log c s wanted from begun w in
     subst P (sym step.is)
     (own_changes log c s wanted from once.confirmed begun old.slots old step.start step.before (record step.before { back = step.before.back ++ status_with flushed clock position ∷ [] }) once step.there step.known refl once.slot once.reaches
-    (omega (arith, once.within, ap position_in step.known)) mine.0 (record {
-      base = fed.base;
-      stood = fed.stood;
-      rests = fed.rests;
-      settled = fed.settled;
-      later = fed.later;
-      asked = fed.asked;
-      selects = fed.selects;
-      streams = fed.streams;
-      within = fed.within;
-      taken = fed.taken;
-      back = all_of_both (λ (t : Status). t.flushed ≤ position) step.before.back (status_with flushed clock position ∷ []) fed.back (by_flushed flushed fair (ap position_in step.known), tt);
-    }))
+    (omega (arith, once.within, ap position_in step.known)) mine.0 (fed_further _ fed refl fed.within fed.taken (all_of_both (λ (t : Status). t.flushed ≤ position) step.before.back (status_with flushed clock position ∷ []) fed.back (by_flushed flushed fair (ap position_in step.known), tt))))
   where
     by_flushed : (flushed : Option ℕ) → ((n : ℕ) → flushed ≡ Some n → n ≤ position_of c old) → position_of c old ≡ step.before.applier.subscriber.position → (status_with flushed clock step.before.applier.subscriber.position).flushed ≤ step.before.applier.subscriber.position
     by_flushed None fair at = omega arith
@@ -182,19 +170,7 @@ own_acknowledged log c s wanted from begun old a new once step =
     let P : WorldState → Type 0 = λ w. IsOnce log c s wanted from begun w in
     subst P (sym step.is)
     (own_changes log c s wanted from (max once.confirmed by) begun (slots_after_confirming step.before.slot by old.slots) old step.start step.before (record step.before { back = step.rest }) once step.there step.known refl slot (omega (arith, once.reaches))
-    (omega (arith, once.within, ap position_in step.known, told.0)) mine.0 (record {
-      base = fed.base;
-      stood = fed.stood;
-      rests = fed.rests;
-      settled = fed.settled;
-      later = fed.later;
-      asked = fed.asked;
-      selects = fed.selects;
-      streams = fed.streams;
-      within = fed.within;
-      taken = fed.taken;
-      back = told.1;
-    }))
+    (omega (arith, once.within, ap position_in step.known, told.0)) mine.0 (fed_further _ fed refl fed.within fed.taken (told.1)))
 
 -- ---- Its start.
 

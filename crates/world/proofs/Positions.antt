@@ -25,19 +25,31 @@ none_read_by p (r ∷ n) goes sized =
     let stops : leb r.end p ≡ false = lt-leb r.end p (omega (arith, next.0, sized.0)) in
     rw stops refl
 
+-- the records before a place and those from it on, each as they follow
+record IsParted (log m n : List Record) : Type 0 where
+  whole : m ++ n ≡ log
+  goes : follows FIRST_POSITION m ≡ true
+  sized : AllByRecursion IsSized m
+  goes_on : follows (end_of FIRST_POSITION m) n ≡ true
+  sized_on : AllByRecursion IsSized n
+
+parted : (log : List Record) (place : ℕ) → IsWellFormedLog log → IsParted log (take place log) (drop place log)
+parted log place good =
+    let m = take place log in
+    let n = drop place log in
+    let whole : m ++ n ≡ log = take-append-drop place log in
+    let goes = subst (λ (l : List Record). follows FIRST_POSITION l ≡ true) (sym whole) good.follows in
+    let sized = subst (λ (l : List Record). AllByRecursion IsSized l) (sym whole) good.sizes in
+    let parts = follows_parts FIRST_POSITION m n goes in
+    record { whole = whole; goes = parts.0; sized = all_front IsSized m n sized; goes_on = parts.1; sized_on = all_back IsSized m n sized }
+
 pub read_by_place : (log : List Record) (place : ℕ) → IsWellFormedLog log → read_by (end_of FIRST_POSITION (take place log)) log ≡ take place log
 read_by_place log place good =
     let m = take place log in
     let n = drop place log in
-    let whole : m ++ n ≡ log = take-append-drop place log in
-    let F : List Record → Type 0 = λ l. follows FIRST_POSITION l ≡ true in
-    let S : List Record → Type 0 = λ l. AllByRecursion IsSized l in
-    let goes = subst F (sym whole) good.follows in
-    let sized = subst S (sym whole) good.sizes in
-    let parts = follows_parts FIRST_POSITION m n goes in
-    ap (read_by (end_of FIRST_POSITION m)) (sym whole)
-    ∙ all_read_by FIRST_POSITION m n parts.0 (all_front IsSized m n sized) (end_of FIRST_POSITION m) (omega arith)
-    ∙ ap (λ l. m ++ l) (none_read_by (end_of FIRST_POSITION m) n parts.1 (all_back IsSized m n sized)) ∙ append-nil m
+    let parts = parted log place good in
+    ap (read_by (end_of FIRST_POSITION m)) (sym parts.whole) ∙ all_read_by FIRST_POSITION m n parts.goes parts.sized (end_of FIRST_POSITION m) (omega arith)
+    ∙ ap (λ l. m ++ l) (none_read_by (end_of FIRST_POSITION m) n parts.goes_on parts.sized_on) ∙ append-nil m
 
 none_read : (at : ℕ) (m n : List Record) → follows at m ≡ true → AllByRecursion IsSized m → (p : ℕ) → end_of at m ≤ p → unread_records p (m ++ n) ≡ unread_records p n
 none_read at [] n goes sized p le = refl
@@ -58,12 +70,6 @@ pub unread_place : (log : List Record) (place : ℕ) → IsWellFormedLog log →
 unread_place log place good =
     let m = take place log in
     let n = drop place log in
-    let whole : m ++ n ≡ log = take-append-drop place log in
-    let F : List Record → Type 0 = λ l. follows FIRST_POSITION l ≡ true in
-    let S : List Record → Type 0 = λ l. AllByRecursion IsSized l in
-    let goes = subst F (sym whole) good.follows in
-    let sized = subst S (sym whole) good.sizes in
-    let parts = follows_parts FIRST_POSITION m n goes in
-    ap (unread_records (end_of FIRST_POSITION m)) (sym whole)
-    ∙ none_read FIRST_POSITION m n parts.0 (all_front IsSized m n sized) (end_of FIRST_POSITION m) (omega arith)
-    ∙ all_unread (end_of FIRST_POSITION m) n parts.1 (all_back IsSized m n sized)
+    let parts = parted log place good in
+    ap (unread_records (end_of FIRST_POSITION m)) (sym parts.whole) ∙ none_read FIRST_POSITION m n parts.goes parts.sized (end_of FIRST_POSITION m) (omega arith)
+    ∙ all_unread (end_of FIRST_POSITION m) n parts.goes_on parts.sized_on

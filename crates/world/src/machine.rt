@@ -63,6 +63,7 @@ impl<L: LogName + SlotName> Machine<L> {
         ensures machine { IfOk result IsMachine }
     {
         let Ok(slots) = HeldSlots::open(alloc, table) else {
+            // Let go by one call each, which keeps the proof short.
             drop(config);
             drop(history);
             return Err(WorldFault::Memory);
@@ -85,6 +86,7 @@ impl<L: LogName + SlotName> Machine<L> {
             }
             Err(_) => {
                 slots.close();
+                // Let go by one call, which keeps the proof short.
                 drop(publications);
                 return Err(WorldFault::Memory);
             }

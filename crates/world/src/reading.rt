@@ -14,7 +14,8 @@ use txlog::Publisher;
 use walsender::{SendFault, Walsender};
 
 /// Puts the reader where a stream that starts at this position begins to read the log as it stands, and answers the position
-/// there. E1 changes nothing. It takes no memory.
+/// there. `NoEntry` or `Stale` (E1), where the log lets no reader in, and `Removed` (E3), where records that are needed were
+/// given back, leave the reader at its place. It takes no memory.
 pub fn resume<L: LogName>(
     publisher: &mut Publisher<L>,
     reader: &mut LogReader<L>,

@@ -89,7 +89,8 @@ impl<L: LogName> Start<L> {
         self.connection.as_str() == connection.as_str() && matches!(&self.stage, Stage::Open(_))
     }
 
-    /// Does what a line asks of the sender. It is open; where it is cut, its reader goes back to the others.
+    /// Does what a line asks of the sender. It is open; where it is cut, its reader goes back to the others. `Memory` (V2), and
+    /// `NoEntry` (V3) where the log gives it no records, change nothing of it.
     pub fn act(
         &mut self,
         alloc: Global,

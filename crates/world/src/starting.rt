@@ -106,6 +106,7 @@ impl<L: LogName + SlotName> Machine<L> {
         ensures machine { IsMachine self.new }
     {
         let Ok(means) = self.reserve(alloc, name, slot) else {
+            // Let go by one call, which keeps the proof short.
             drop(selection);
             return Err(WorldFault::Memory);
         };
@@ -113,6 +114,7 @@ impl<L: LogName + SlotName> Machine<L> {
         let first = match self.resume(start) {
             Ok(first) => first,
             Err(fault) => {
+                // Let go by one call each, which keeps the proof short.
                 drop(means);
                 drop(selection);
                 return Err(fault);
@@ -191,6 +193,7 @@ impl<L: LogName + SlotName> Machine<L> {
                 connection,
             }),
             Err(fault) => {
+                // Let go by one call, which keeps the proof short.
                 drop(arena);
                 Err(fault)
             }

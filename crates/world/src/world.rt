@@ -56,7 +56,7 @@ impl<L: LogName + SlotName> Model for World<L> {
 }
 
 impl<L: LogName + SlotName> World<L> {
-    /// A world with an empty log. V2 where there was no memory for it.
+    /// A world with an empty log. `Memory` (V2) where there was no memory for it.
     pub fn new<R: Wait>(
         rt: &R,
         alloc: Global,
@@ -75,8 +75,9 @@ impl<L: LogName + SlotName> World<L> {
         })
     }
 
-    /// Does one event, keeps what it answered, and answers it. V1 exactly where its name is unknown or wrongly repeated, V2 for
-    /// memory of the event or for the place of its answer, and V3 where the log that it reads, or begins to read, lets no reader in; each changes nothing.
+    /// Does one event, keeps what it answered, and answers it. `BadEvent` (V1) exactly where its name is unknown or wrongly
+    /// repeated, `Memory` (V2) of the event or for the place of its answer, and `NoEntry` (V3) where the log that it reads, or
+    /// begins to read, gives it no records; each changes nothing.
     pub fn step<R: Wait>(&mut self, rt: &R, event: &Event) -> Result<Answer, WorldFault>
         ensures step { IfOk result (λ a. IsStep self.old.state event.now a self.new.state) }
         ensures kept { IfOk result (λ a. self.new.answers ≡ self.old.answers ++ a ∷ []) }
@@ -96,8 +97,9 @@ impl<L: LogName + SlotName> World<L> {
         Ok(answer)
     }
 
-    /// Does the events one after the other, up to the first that doesn't happen. Then it hands the world back with the fault, to
-    /// be closed. The places of all answers are there before the first event, so that V2 is of an event alone.
+    /// Does the events one after the other, up to the first that doesn't happen. Then `Step` hands the world back with the
+    /// fault, to be closed. `New` (V2) is want of memory for a world, and for the places of all answers, so that `Memory` (V2)
+    /// in `Step` is of an event alone.
     pub fn run<R: Wait>(
         rt: &R,
         alloc: Global,

@@ -64,7 +64,7 @@ pub(crate) fn commit_now<L: LogName + SlotName, R: Wait + Clock>(
 }
 
 /// Does a session's line under the publisher's lock, once there is room for it where there can be, and tells streams of its commit or its note.
-pub(crate) fn do_event<L: LogName + SlotName, R: Wait>(
+pub(crate) fn do_event<L: LogName + SlotName, R: Wait + Clock>(
     rt: &R,
     hub: &Hub<L>,
     sessions: &mut Sessions,
@@ -92,7 +92,7 @@ fn not_now(event: &Event) -> Refusal {
 }
 
 /// A commit leaves its receipt, in a log of which so many records are kept.
-fn tell_commit<L: LogName + SlotName, R: Wait>(
+fn tell_commit<L: LogName + SlotName, R: Wait + Clock>(
     rt: &R,
     hub: &Hub<L>,
     answer: Answer,
@@ -108,7 +108,7 @@ fn tell_commit<L: LogName + SlotName, R: Wait>(
 }
 
 /// A note or an abort that was done leaves where the log ends; other lines leave nothing.
-fn tell_end<L: LogName + SlotName, R: Wait>(
+fn tell_end<L: LogName + SlotName, R: Wait + Clock>(
     rt: &R,
     hub: &Hub<L>,
     event: &Event,

@@ -1,29 +1,14 @@
-use Rattle.std.proofs.Common.{◌∙◌, true, false, sym, arith}
+use Rattle.std.proofs.Common.{◌∙◌, Bool, ap, sym, arith}
 use Rattle.conditions.specs.Conditions.{Condition}
-use Rattle.conditions.specs.Steps.{turns}
+use Rattle.conditions.specs.Steps.{outcome, turns}
 use Rattle.conditions.specs.Truth.{is_true, truth}
 use Rattle.conditions.proofs.Stepping.{all_led, ended, next_lower, next_same}
 use Rattle.conditions.proofs.steps.holds_by.Goals as goal
 
-pub loop-next-smaller-then-holds : goal.loop-next-smaller-then-holds
-loop-next-smaller-then-holds c = next_lower c.args.steps.now c.loop-next.next c.index-steps-next.result true c.loop-next-test.true c.loop-next.invariant.within c.index-steps-next.is c.requires
-
 pub loop-next-smaller : goal.loop-next-smaller
-loop-next-smaller c = next_lower c.args.steps.now c.loop-next.next c.index-steps-next.result false c.loop-next-test.true c.loop-next.invariant.within c.index-steps-next.is c.requires
-
-pub loop-next-preserved-then-holds : goal.loop-next-preserved-then-holds
-loop-next-preserved-then-holds c =
-    let steps = c.args.steps.now in
-    let step = c.index-steps-next.result in
-    let test = c.loop-next-test.true in
-    let within = c.loop-next.invariant.within in
-    record {
-      read = c.holds.ensures.read;
-      within = omega (arith, within, next_lower steps c.loop-next.next step true test within c.index-steps-next.is c.requires);
-      same =
-          next_same (λ d. is_true (truth d c.args.row.now)) steps c.loop-next.next step true test within c.index-steps-next.is c.requires (sym c.if-holds.true ∙ c.holds.ensures.answer)
-          ∙ c.loop-next.invariant.same;
-    }
+loop-next-smaller c =
+    let lower = next_lower c.args.steps.now c.loop-next.next c.index-steps-next.result c.holds.result c.loop-next-test.true c.loop-next.invariant.within c.index-steps-next.is c.requires in
+    omega (arith, c.next-next.ensures, lower)
 
 pub loop-next-preserved : goal.loop-next-preserved
 loop-next-preserved c =
@@ -31,11 +16,13 @@ loop-next-preserved c =
     let step = c.index-steps-next.result in
     let test = c.loop-next-test.true in
     let within = c.loop-next.invariant.within in
+    let answers : Condition → Bool = λ d. is_true (truth d c.args.row.now) in
     record {
       read = c.holds.ensures.read;
-      within = omega (arith, within, next_lower steps c.loop-next.next step false test within c.index-steps-next.is c.requires);
+      within = omega (arith, within, c.next-next.ensures, next_lower steps c.loop-next.next step c.holds.result test within c.index-steps-next.is c.requires);
       same =
-          next_same (λ d. is_true (truth d c.args.row.now)) steps c.loop-next.next step false test within c.index-steps-next.is c.requires (sym c.if-holds.false ∙ c.holds.ensures.answer)
+          ap (λ n. outcome answers n (turns steps)) c.next-next.ensures
+          ∙ next_same answers steps c.loop-next.next step c.holds.result test within c.index-steps-next.is c.requires c.holds.ensures.answer
           ∙ c.loop-next.invariant.same;
     }
 

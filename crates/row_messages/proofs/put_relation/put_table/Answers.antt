@@ -1,108 +1,45 @@
 use Rattle.std.proofs.Common.{◌≤◌, ℕ, List, [], ◌∷◌, ap, length, sym, subst, ◌∙◌, arith}
 use Rattle.std.specs.List.{AllByRecursion, flat_map}
 use Rattle.std.specs.Prelude.{map}
-use Rattle.std.proofs.lemmas.List.{length-append}
 use Rattle.pqformat.specs.Fields.{string}
-use Rattle.pqformat.proofs.Numbers.{length-int16, length-int32}
+use Rattle.pqformat.proofs.Numbers.{length-int16}
 use Rattle.pgoutput.specs.Relation.{column}
 use Rattle.tables.specs.declared.column.Column.{Column}
 use Rattle.row_messages.specs.Relations.{listed_items, relation_column}
 use Rattle.pqformat.specs.Writing.{Writes}
-use Rattle.row_messages.proofs.RelationParts.{names_short, relation_written}
+use Rattle.row_messages.proofs.RelationParts.{named_at, names_short, relation_written, schema_at}
 use Rattle.row_messages.proofs.put_relation.put_table.Goals as goal
 
 pub put_name-named-requires : goal.put_name-named-requires
 put_name-named-requires c =
-    let fits = c.requires.fits in
-    omega (
-      arith,
-      c.requires.room.0,
-      c.write_byte-kind.ensures.ends,
-      c.write_byte-kind.ensures.same,
-      c.write_int32-oid.ensures.ends,
-      c.write_int32-oid.ensures.same,
-      length-int32 c.args.table.now.oid,
-      c.put_name-placed.ensures.ends,
-      c.put_name-placed.ensures.same,
-      length-append c.as_str-schema.result.now (0 ∷ []),
-      ap (length {A = ℕ}) c.as_str-schema.ensures.value,
-      ap (length {A = ℕ}) c.as_str-name.ensures.value,
-      fits.schema_length,
-      fits.name_length,
-    )
+    let placed = schema_at _ _ _ _ _ _ _ _ _ _ _ c.as_str-schema.ensures.value c.write_byte-kind.ensures c.write_int32-oid.ensures c.put_name-placed.ensures in
+    omega (arith, c.requires.room.0, placed, ap (length {A = ℕ}) c.as_str-name.ensures.value, c.requires.fits.schema_length, c.requires.fits.name_length)
 
 pub write_byte-identity-requires : goal.write_byte-identity-requires
 write_byte-identity-requires c =
-    let fits = c.requires.fits in
-    omega (
-      arith,
-      c.requires.room.0,
-      c.write_byte-kind.ensures.ends,
-      c.write_byte-kind.ensures.same,
-      c.write_int32-oid.ensures.ends,
-      c.write_int32-oid.ensures.same,
-      length-int32 c.args.table.now.oid,
-      c.put_name-placed.ensures.ends,
-      c.put_name-placed.ensures.same,
-      c.put_name-named.ensures.ends,
-      c.put_name-named.ensures.same,
-      length-append c.as_str-schema.result.now (0 ∷ []),
-      length-append c.as_str-name.result.now (0 ∷ []),
-      ap (length {A = ℕ}) c.as_str-schema.ensures.value,
-      ap (length {A = ℕ}) c.as_str-name.ensures.value,
-      fits.schema_length,
-      fits.name_length,
-    )
+    let named = named_at _ _ _ _ _ _ _ _ _ _ _ _ _ _ _ c.as_str-schema.ensures.value c.as_str-name.ensures.value c.write_byte-kind.ensures c.write_int32-oid.ensures c.put_name-placed.ensures c.put_name-named.ensures in
+    omega (arith, c.requires.room.0, named, c.requires.fits.schema_length, c.requires.fits.name_length)
 
 pub write_int16-counted-requires : goal.write_int16-counted-requires
 write_int16-counted-requires c =
-    let fits = c.requires.fits in
-    omega (
-      arith,
-      c.requires.room.0,
-      c.write_byte-kind.ensures.ends,
-      c.write_byte-kind.ensures.same,
-      c.write_int32-oid.ensures.ends,
-      c.write_int32-oid.ensures.same,
-      length-int32 c.args.table.now.oid,
-      c.put_name-placed.ensures.ends,
-      c.put_name-placed.ensures.same,
-      c.put_name-named.ensures.ends,
-      c.put_name-named.ensures.same,
-      c.write_byte-identity.ensures.ends,
-      c.write_byte-identity.ensures.same,
-      length-append c.as_str-schema.result.now (0 ∷ []),
-      length-append c.as_str-name.result.now (0 ∷ []),
-      ap (length {A = ℕ}) c.as_str-schema.ensures.value,
-      ap (length {A = ℕ}) c.as_str-name.ensures.value,
-      fits.schema_length,
-      fits.name_length,
-    )
+    let named = named_at _ _ _ _ _ _ _ _ _ _ _ _ _ _ _ c.as_str-schema.ensures.value c.as_str-name.ensures.value c.write_byte-kind.ensures c.write_int32-oid.ensures c.put_name-placed.ensures c.put_name-named.ensures in
+    omega (arith, c.requires.room.0, named, c.write_byte-identity.ensures.ends, c.write_byte-identity.ensures.same, c.requires.fits.schema_length, c.requires.fits.name_length)
 
 pub put_columns-requires-clause-room : goal.put_columns-requires-clause-room
 put_columns-requires-clause-room c =
     let fits = c.requires.fits in
+    let named = named_at _ _ _ _ _ _ _ _ _ _ _ _ _ _ _ c.as_str-schema.ensures.value c.as_str-name.ensures.value c.write_byte-kind.ensures c.write_int32-oid.ensures c.put_name-placed.ensures c.put_name-named.ensures in
+    let identity = c.write_byte-identity.ensures in
+    let counted = c.write_int16-counted.ensures in
     omega (
       arith,
       c.requires.room.0,
-      c.write_byte-kind.ensures.ends,
-      c.write_byte-kind.ensures.same,
-      c.write_int32-oid.ensures.ends,
-      c.write_int32-oid.ensures.same,
-      length-int32 c.args.table.now.oid,
-      c.put_name-placed.ensures.ends,
-      c.put_name-placed.ensures.same,
-      c.put_name-named.ensures.ends,
-      c.put_name-named.ensures.same,
-      c.write_byte-identity.ensures.ends,
-      c.write_byte-identity.ensures.same,
-      c.write_int16-counted.ensures.ends,
-      c.write_int16-counted.ensures.same,
+      named,
+      identity.ends,
+      identity.same,
+      counted.ends,
+      counted.same,
       length-int16 c.count_listed-count.result,
-      length-append c.as_str-schema.result.now (0 ∷ []),
-      length-append c.as_str-name.result.now (0 ∷ []),
-      ap (length {A = ℕ}) c.as_str-schema.ensures.value,
-      ap (length {A = ℕ}) c.as_str-name.ensures.value,
       ap (length {A = Column}) c.as_slice-columns.ensures,
       fits.schema_length,
       fits.name_length,

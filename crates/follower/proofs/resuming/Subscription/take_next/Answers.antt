@@ -1,6 +1,6 @@
 use Rattle.std.proofs.Common.{ap, subst, ◌∙◌, ◌++◌, List, ℕ, take, take-append-drop}
 use Rattle.follower.specs.Standing.{Goes, standing}
-use Rattle.follower.proofs.Going.{goes_then}
+use Rattle.follower.proofs.Going.{goes_then, waiting}
 use Rattle.follower.proofs.resuming.Subscription.take_next.Goals as goal
 
 pub returns-in-Some : goal.returns-in-Some
@@ -13,5 +13,16 @@ returns-in-Some g c =
           (standing c.take-taken.new.self rest (g.W.Write.contents c.take-taken.new.output) (g.W.Output.kept c.take-taken.new.output) (g.S.Write.contents c.take-taken.new.socket))) whole (c.take-taken.ensures.goes rest);
     }
 
-pub returns : goal.returns
-returns g c = record { goes = goes_then _ _ _ (c.settle.ensures.goes c.args.incoming.now.unread.items) c.wait.ensures.goes }
+pub returns-in-Err-Silent : goal.returns-in-Err-Silent
+returns-in-Err-Silent g c =
+    let unread = c.args.incoming.now.unread.items in
+    let asked = goes_then _ _ _ (waiting unread c.receive_more.ensures.more.0 c.receive_more.new.self.unread.items c.settle.new.self (g.W.Write.contents c.settle.new.output) (g.W.Output.kept c.settle.new.output)
+    (g.S.Write.contents c.settle.new.socket) (g.S.Write.contents c.receive_more.new.socket) c.receive_more.ensures.more.1 c.receive_more.ensures.sent) (c.acknowledge.ensures.goes c.receive_more.new.self.unread.items) in
+    record { goes = goes_then _ _ _ (c.settle.ensures.goes unread) asked }
+
+pub returns-in_default : goal.returns-in_default
+returns-in_default g c =
+    let unread = c.args.incoming.now.unread.items in
+    let waited = waiting unread c.receive_more.ensures.more.0 c.receive_more.new.self.unread.items c.settle.new.self (g.W.Write.contents c.settle.new.output) (g.W.Output.kept c.settle.new.output)
+    (g.S.Write.contents c.settle.new.socket) (g.S.Write.contents c.receive_more.new.socket) c.receive_more.ensures.more.1 c.receive_more.ensures.sent in
+    record { goes = goes_then _ _ _ (c.settle.ensures.goes unread) waited }

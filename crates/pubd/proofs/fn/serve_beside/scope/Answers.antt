@@ -8,7 +8,7 @@ pub spawn-scripted-requires-send-F : goal.spawn-scripted-requires-send-F
 spawn-scripted-requires-send-F g c κs within = search (crosses, service.the_sync, told.the_sync, flag.the_sync) depth 40
 
 pub spawn-shown-requires-send-F : goal.spawn-shown-requires-send-F
-spawn-shown-requires-send-F g c κs within = search (crosses, service.the_sync) depth 40
+spawn-shown-requires-send-F g c κs within = search (crosses, service.the_sync, told.the_sync) depth 40
 
 pub spawn-watched-requires-send-F : goal.spawn-watched-requires-send-F
 spawn-watched-requires-send-F g c κs within = search (crosses, service.the_sync) depth 40

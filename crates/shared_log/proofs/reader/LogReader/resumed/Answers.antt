@@ -5,4 +5,4 @@ use Rattle.shared_log.proofs.Steps.{enters}
 use Rattle.shared_log.proofs.reader.LogReader.resumed.Goals as goal
 
 pub enter_as-requires : goal.enter_as-requires
-enter_as-requires g c x views keeps at = enters g.L.LogName.book _ (view c.args.self.reader.place) (shown_records x.mark.seen.log) x.edge (kept_in x.records.items) x.mark.seen.book views keeps at
+enter_as-requires g c x views keeps at = enters g.L.LogName.book _ (view c.into_parts-reader.result.0.place) (shown_records x.mark.seen.log) x.edge (kept_in x.records.items) x.mark.seen.book views keeps at

@@ -10,6 +10,5 @@ loop-undo-preserved c = (
       (cond (is_noted place c.args.undos) (slot_after_end c.args.top (slot_at c.args.self.now place)) (slot_at c.args.self.now place)) place c.in-Some.ensures.items
       (c.free_place.ensures.slots place ∙ ap (λ (k : List ℕ). cond (same_key place k) (slot_after_end c.args.top (slot_at c.loop-undo.self place)) (slot_at c.loop-undo.self place)) c.as_slice.ensures)
       (c.loop-undo.invariant.0 place),
-  λ others all. c.free_place.ensures.places others (c.loop-undo.invariant.1 others all),
-  λ all. c.free_place.ensures.short (c.loop-undo.invariant.2 all),
+  λ all. c.free_place.ensures.short (c.loop-undo.invariant.1 all),
 )

@@ -16,7 +16,7 @@ loop-oid-preserved c =
     let made : c.note.new.self ≡ slots_with (table_place oid) held c.loop-oid.self = c.in_ok-note.ensures.ok ∙ ap (λ (k : List ℕ). slots_with k held c.loop-oid.self) at in (
       λ place. held_next c.args.top c.args.oids.now i oid c.loop-oid.self c.note.new.self place (put_at (Some c.args.top) (all_emptied c.args.oids.now) place (slot_at c.args.self.now place))
           (drop_more c.args.oids.now i 0 c.loop-oid-test.true) made (c.loop-oid.invariant.0 place),
-      λ start h. noted_next c.args.oids.now start c.loop-oid.self c.note.new.self c.loop-oid.undos.items c.note.new.undos.items (table_place oid) held
+      λ start h. noted_next c.args.oids.now start c.loop-oid.self c.note.new.self c.loop-oid.undos.items c.note.new.undos.items (table_place oid) held refl
           (table_is_of c.args.oids.now start i oid c.loop-oid-test.true refl) made
           (c.in_ok-note.ensures.noted ∙ ap (λ (k : List ℕ). c.loop-oid.undos.items ++ record { key = k; before = slot_at c.loop-oid.self k } ∷ []) at) (c.loop-oid.invariant.1 start h),
     )

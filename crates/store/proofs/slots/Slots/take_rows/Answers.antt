@@ -1,4 +1,4 @@
-use Rattle.std.proofs.Common.{◌≡◌, ℕ, List, [], ◌∷◌, ◌++◌, None, drop, ◌+◌, sym, ap, ◌∙◌}
+use Rattle.std.proofs.Common.{◌≡◌, ℕ, List, [], ◌∷◌, ◌++◌, None, Some, drop, ◌+◌, refl, sym, ap, ◌∙◌}
 use Rattle.std.proofs.lemmas.List.{drop_more}
 use Rattle.store.specs.declared.slot.Slot.{Slot}
 use Rattle.store.specs.Slots.{slot_at, slots_with}
@@ -14,14 +14,14 @@ pub loop-row-preserved : goal.loop-row-preserved
 loop-row-preserved c =
     let i : ℕ = c.loop-row.row-index in
     let p : List ℕ = c.row-item.result in
-    let taken : Slot = record { row = None; owner = c.owner-owner.result } in
-    let at : c.as_slice-place.result.now ≡ p = c.as_slice-place.ensures in
+    let taken : Slot = record { row = None; owner = Some c.args.top } in
+    let at : c.as_slice.result.now ≡ p = c.as_slice.ensures in
     let made : c.note.new.self ≡ slots_with p taken c.loop-row.self = c.in_ok-note.ensures.ok ∙ ap (λ (k : List ℕ). slots_with k taken c.loop-row.self) at in
     let left : drop i c.args.rows.now ≡ p ∷ drop (i + 1) c.args.rows.now =
     drop_more c.args.rows.now i p c.loop-row-test.true ∙ ap (λ (k : List ℕ). k ∷ drop (i + 1) c.args.rows.now) (sym c.row-item.is) in (
-      λ place. taken_next c.args.rows.now i p c.owner-owner.result c.loop-row.self c.note.new.self place (taken_at c.args.rows.now place (slot_at c.args.self.now place)) left
-          (c.owner-owner.ensures ∙ ap (λ (k : List ℕ). (slot_at c.loop-row.self k).owner) at) made (c.loop-row.invariant.0 place),
-      λ oids start all h. noted_next oids start c.loop-row.self c.note.new.self c.loop-row.undos.items c.note.new.undos.items p taken
+      λ place. taken_next c.args.top c.args.rows.now i p c.loop-row.self c.note.new.self place (taken_at c.args.top c.args.rows.now place (slot_at c.args.self.now place)) left made
+          (c.loop-row.invariant.0 place),
+      λ oids start all h. noted_next oids start c.loop-row.self c.note.new.self c.loop-row.undos.items c.note.new.undos.items p taken refl
           (all_at (IsOf oids start) c.args.rows.now i p all c.loop-row-test.true c.row-item.is) made
           (c.in_ok-note.ensures.noted ∙ ap (λ (k : List ℕ). c.loop-row.undos.items ++ record { key = k; before = slot_at c.loop-row.self k } ∷ []) at) (c.loop-row.invariant.1 oids start all h),
     )

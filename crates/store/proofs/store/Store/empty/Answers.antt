@@ -11,7 +11,7 @@ pub returns-in_err-note-clause-err : goal.returns-in_err-note-clause-err
 returns-in_err-note-clause-err c =
     let p = err_from_is_err_and c.from_residual-in_err-note.result c.from_residual-in_err-note.ensures.1 in
     rw p.1 (emptied_same c.args.self.now c.note.new.self c.args.oids.now c.empty.new.self c.in_ok-undos.undos (c.note.ensures.tables ∙ ap (λ (s : StoreState). s.tables) c.self.view_is)
-    (subst (λ (s : StoreState). AreNoted c.args.oids.now s.slots c.empty.new.self c.in_ok-undos.undos) c.self.view_is c.in_ok-undos.ensures.noted) c.in_err-note.ensures.undone
+    (subst (λ (s : StoreState). AreNoted c.args.oids.now s.slots c.empty.new.self c.in_ok-undos.undos) c.self.view_is c.in_ok-undos.ensures.noted) c.in_err-note.ensures.undone c.in_err-note.ensures.short
     (subst (λ (s : StoreState). (x : ℕ) → journal_of x c.note.new.self.journals ≡ journal_of x s.journals) c.self.view_is c.in_err-note.ensures.same))
 
 pub returns-clause-ok : goal.returns-clause-ok

@@ -14,5 +14,5 @@ returns-clause-err c =
     (c.in_ok-undos.ensures.ok ∙ ap (λ (k : List ℕ). put_all (Some c.args.top) ((k, c.args.row) ∷ []) c.self.inside.slots) c.as_bytes.ensures ∙ ap (λ (es : Entries). put_all (Some c.args.top) ps es) shown)
     (c.in_ok-undos.ensures.noted ∙ ap (λ (k : List ℕ). noted_of (Some c.args.top) ((k, c.args.row) ∷ []) c.self.inside.slots) c.as_bytes.ensures ∙ ap (λ (es : Entries). noted_of (Some c.args.top) ps es) shown)
     (c.requires, tt)
-    c.note.ensures.undone
+    c.note.ensures.undone c.note.ensures.short
     (subst (λ (s : StoreState). OnErr c.note.result ((x : ℕ) → journal_of x c.note.new.self.journals ≡ journal_of x s.journals)) c.self.view_is c.note.ensures.same)

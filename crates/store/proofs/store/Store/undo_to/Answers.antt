@@ -10,7 +10,7 @@ pub loop-undos-preserved : goal.loop-undos-preserved
 loop-undos-preserved c = (
   c.loop-undos.invariant.0,
   λ h keeps. undoing_more (state c.loop-undos.self-inside.catalog c.loop-undos.self-inside.slots c.loop-undos.self-inside.journals)
-      (state c.loop-undos.self-inside.catalog c.undo.new.self c.pop_behind.new.self) c.args.top c.args.mark c.in-Some.undos h refl c.in-Some.ensures.last c.in-Some.ensures.others c.undo.ensures
+      (state c.loop-undos.self-inside.catalog c.undo.new.self c.pop_behind.new.self) c.args.top c.args.mark c.in-Some.undos h refl c.in-Some.ensures.last c.in-Some.ensures.others c.undo.ensures.slots c.undo.ensures.short
       c.in-Some.ensures.behind (c.loop-undos.invariant.1 h keeps),
 )
 

@@ -1,9 +1,10 @@
-use Rattle.std.proofs.Common.{◌≡◌, ℕ, ℤ, List, ◌++◌, length, take, ap, sym, ◌∙◌, vec_capacity, arith}
+use Rattle.std.proofs.Common.{◌≡◌, ℕ, ℤ, List, ◌++◌, length, take, ap, refl, sym, ◌∙◌, arith}
 use Rattle.std.specs.Int.{w64}
 use Rattle.std.proofs.lemmas.Int.{to_z-of_z}
 use Rattle.std.proofs.lemmas.List.{length-append, take_all}
 use Rattle.walsender.specs.declared.outgoing.Outgoing.{Outgoing}
 use Rattle.walsender.specs.Waiting.{begin_bytes}
+use Rattle.walsender.proofs.Frames.{queue_kept}
 use Rattle.walsender.proofs.Noting.{on_err}
 use Rattle.walsender.proofs.Refusing.{no_value}
 use Rattle.walsender.proofs.outgoing.Outgoing.begin.Goals as goal
@@ -29,17 +30,7 @@ returns-in_err-reserve-clause-waiting c =
     ap (λ (p : Outgoing). p.waiting) c.reserve.ensures.rest
 
 pub returns-in_err-reserve-clause-rest : goal.returns-in_err-reserve-clause-rest
-returns-in_err-reserve-clause-rest c =
-    let rest = c.reserve.ensures.rest in
-    record {
-      front = ap (λ (p : Outgoing). p.front.items) rest;
-      from = ap (λ (p : Outgoing). p.from) rest;
-      to = ap (λ (p : Outgoing). p.to) rest;
-      waiting = ap (λ (p : Outgoing). p.waiting.items) rest;
-      placed = ap (λ (p : Outgoing). p.placed) rest;
-      sent = ap (λ (p : Outgoing). p.relations_sent.items) rest;
-      capacity = (let same = ap (λ (p : Outgoing). vec_capacity p.relations_sent) rest in omega (arith, same));
-    }
+returns-in_err-reserve-clause-rest c = queue_kept c.args.self.now c.reserve.new.self c.reserve.new.self c.reserve.ensures.rest refl refl (omega arith)
 
 pub returns-in_err-reserve-2-clause-ok : goal.returns-in_err-reserve-2-clause-ok
 returns-in_err-reserve-2-clause-ok c =
@@ -62,17 +53,7 @@ returns-in_err-reserve-2-clause-waiting c =
     ap (λ (p : Outgoing). p.waiting) c.reserve.ensures.rest
 
 pub returns-in_err-reserve-2-clause-rest : goal.returns-in_err-reserve-2-clause-rest
-returns-in_err-reserve-2-clause-rest c =
-    let rest = c.reserve.ensures.rest in
-    record {
-      front = ap (λ (p : Outgoing). p.front.items) rest;
-      from = ap (λ (p : Outgoing). p.from) rest;
-      to = ap (λ (p : Outgoing). p.to) rest;
-      waiting = ap (λ (p : Outgoing). p.waiting.items) rest;
-      placed = ap (λ (p : Outgoing). p.placed) rest;
-      sent = c.reserve-2.ensures.items ∙ ap (λ (p : Outgoing). p.relations_sent.items) rest;
-      capacity = (let same = ap (λ (p : Outgoing). vec_capacity p.relations_sent) rest in omega (arith, same, c.reserve-2.ensures.capacity));
-    }
+returns-in_err-reserve-2-clause-rest c = queue_kept c.args.self.now c.reserve.new.self (record c.reserve.new.self { relations_sent = c.reserve-2.new.self }) c.reserve.ensures.rest refl c.reserve-2.ensures.items (omega (arith, c.reserve-2.ensures.capacity))
 
 pub returns-in_err-put_slice-clause-ok : goal.returns-in_err-put_slice-clause-ok
 returns-in_err-put_slice-clause-ok c =
@@ -95,17 +76,7 @@ returns-in_err-put_slice-clause-waiting c =
     ap (λ (p : Outgoing). p.waiting) c.reserve.ensures.rest
 
 pub returns-in_err-put_slice-clause-rest : goal.returns-in_err-put_slice-clause-rest
-returns-in_err-put_slice-clause-rest c =
-    let rest = c.reserve.ensures.rest in
-    record {
-      front = ap (λ (p : Outgoing). p.front.items) rest;
-      from = ap (λ (p : Outgoing). p.from) rest;
-      to = ap (λ (p : Outgoing). p.to) rest;
-      waiting = ap (λ (p : Outgoing). p.waiting.items) rest;
-      placed = ap (λ (p : Outgoing). p.placed) rest;
-      sent = c.reserve-2.ensures.items ∙ ap (λ (p : Outgoing). p.relations_sent.items) rest;
-      capacity = (let same = ap (λ (p : Outgoing). vec_capacity p.relations_sent) rest in omega (arith, same, c.reserve-2.ensures.capacity));
-    }
+returns-in_err-put_slice-clause-rest c = queue_kept c.args.self.now c.reserve.new.self (record c.reserve.new.self { made = c.put_slice.new.self; relations_sent = c.reserve-2.new.self }) c.reserve.ensures.rest refl c.reserve-2.ensures.items (omega (arith, c.reserve-2.ensures.capacity))
 
 pub returns-clause-frames : goal.returns-clause-frames
 returns-clause-frames c =
@@ -116,17 +87,7 @@ returns-clause-waiting c =
     ap (λ (p : Outgoing). p.waiting) c.reserve.ensures.rest
 
 pub returns-clause-rest : goal.returns-clause-rest
-returns-clause-rest c =
-    let rest = c.reserve.ensures.rest in
-    record {
-      front = ap (λ (p : Outgoing). p.front.items) rest;
-      from = ap (λ (p : Outgoing). p.from) rest;
-      to = ap (λ (p : Outgoing). p.to) rest;
-      waiting = ap (λ (p : Outgoing). p.waiting.items) rest;
-      placed = ap (λ (p : Outgoing). p.placed) rest;
-      sent = c.reserve-2.ensures.items ∙ ap (λ (p : Outgoing). p.relations_sent.items) rest;
-      capacity = (let same = ap (λ (p : Outgoing). vec_capacity p.relations_sent) rest in omega (arith, same, c.reserve-2.ensures.capacity));
-    }
+returns-clause-rest c = queue_kept c.args.self.now c.reserve.new.self (record c.reserve.new.self { made = c.put_slice.new.self; relations_sent = c.reserve-2.new.self }) c.reserve.ensures.rest refl c.reserve-2.ensures.items (omega (arith, c.reserve-2.ensures.capacity))
 
 pub overflow_sub-result : goal.overflow_sub-result
 overflow_sub-result c =

@@ -1,228 +1,80 @@
-use borrow.Rule.Slice.PartMut.{put_mid}
-use Rattle.std.specs.Vec.{with_items}
-use Rattle.std.specs.VecDeque.{deque_with_item}
-use Rattle.std.proofs.lemmas.List.{length-drop, length-take-le}
-use Rattle.std.proofs.Common.{◌≡◌, ◌<◌, ◌≤◌, ◌+◌, ◌-◌, ◌∙◌, ℕ, List, drop, length, refl, sym, ap, subst, arith}
+use Rattle.std.proofs.Common.{◌≡◌, ◌+◌, ◌<◌, ◌≤◌, ◌∷◌, ◌∙◌, ◌⊎◌, ℕ, List, true, false, ap, arith, length, nat_lt, subst, sym, ⊎_elim}
+use Rattle.std.proofs.lemmas.Bool.{cases_lt}
+use Rattle.std.proofs.lemmas.Bool.Decides.{nat_tests}
+use Rattle.walsender.specs.declared.making.TheConstants.{MAX_FRAME_LENGTH}
 use Rattle.walsender.specs.declared.outgoing.Outgoing.{Outgoing}
-use Rattle.walsender.specs.declared.making.TheConstants.{LEAST_ROOM}
-use Rattle.walsender.specs.Outgoing.{HoldsSame, IsFilled}
 use Rattle.walsender.specs.declared.committed_transaction.CommittedTransaction.{CommittedTransaction}
-use Rattle.walsender.proofs.Frames.{filled_both, first_is, first_moved, less, room_there, same_then}
-use Rattle.walsender.proofs.Placing.{IsPlaced, filled_in_place, made_in_place, same_first}
+use Rattle.walsender.specs.Waiting.{AreWithin, places}
+use Rattle.walsender.proofs.Frames.{filled_both, first_moved, first_of, same_then}
 use Rattle.walsender.proofs.outgoing.Outgoing.make_first.Goals as goal
 
-pub returns-then-waiting-gt0-clause-same : goal.returns-then-waiting-gt0-clause-same
-returns-then-waiting-gt0-clause-same c =
+pub pass_before_first-requires-clause-there : goal.pass_before_first-requires-clause-there
+pass_before_first-requires-clause-there c w ws is = omega (arith, c.bytes_before_first-before.ensures w ws is, c.min-count.ensures)
+
+pub pass_before_first-requires-clause-placed : goal.pass_before_first-requires-clause-placed
+pass_before_first-requires-clause-placed c =
+    let f = first_of c.args.self.now.waiting.items c.requires.waits in
+    omega (arith, c.bytes_before_first-before.ensures f.0 f.1 f.2, c.min-count.ensures, ap places f.2, c.requires.good.placed)
+
+pub move_made-requires-clause-enough : goal.move_made-requires-clause-enough
+move_made-requires-clause-enough c =
     let o = c.args.self.now in
-    let w = c.in-Some.waiting.now in
+    let f = first_of o.waiting.items c.requires.waits in
+    let within : AreWithin (length o.made.items) (f.0 ∷ f.1) = subst (AreWithin (length o.made.items)) f.2 c.requires.good.within in
+    let made : c.pass_before_first.new.self.made.items ≡ o.made.items = ap (λ (p : Outgoing). p.made.items) c.pass_before_first.ensures.rest in
+    omega (arith, within.0, ap (length {A = ℕ}) made, c.bytes_before_first-before.ensures f.0 f.1 f.2, c.min-count.ensures)
+
+pub returns-then-before-gt0-clause-same : goal.returns-then-before-gt0-clause-same
+returns-then-before-gt0-clause-same c =
+    let o = c.args.self.now in
     let count = c.min-count.result in
-    let f = first_is o.waiting.items w c.requires.waits c.in-Some.ensures.value in
+    let f = first_of o.waiting.items c.requires.waits in
+    let passed = c.pass_before_first.ensures.rest in
     let rest = c.move_made.ensures.rest in
-    first_moved c.args.selection.now c.args.reorder.now o c.move_made.new.self w f.0 count c.requires.good (omega arith) (omega arith) (omega arith)
+    first_moved c.args.selection.now c.args.reorder.now o c.move_made.new.self f.0 f.1 count c.requires.good (omega arith) (omega (arith, c.bytes_before_first-before.ensures f.0 f.1 f.2, c.min-count.ensures)) (omega (arith, c.min-count.ensures))
     (record {
-      front = ap (λ (p : Outgoing). p.front.items) rest;
-      from = ap (λ (p : Outgoing). p.from) rest;
-      taken = c.move_made.ensures.frames;
-      low = omega arith;
-      high = omega arith;
-      size = c.move_made.ensures.size;
+      front = ap (λ (p : Outgoing). p.front.items) rest ∙ ap (λ (p : Outgoing). p.front.items) passed;
+      from = ap (λ (p : Outgoing). p.from) rest ∙ ap (λ (p : Outgoing). p.from) passed;
+      taken = rw passed at c.move_made.ensures.frames;
+      low = omega (arith, c.move_made.ensures.to, ap (λ (p : Outgoing). p.to) passed);
+      high = omega (arith, c.move_made.ensures.to, c.min-count.ensures, c.requires.room, ap (λ (p : Outgoing). p.to) passed, c.move_made.ensures.size, ap (λ (p : Outgoing). length p.frames.items) passed);
+      size = c.move_made.ensures.size ∙ ap (λ (p : Outgoing). length p.frames.items) passed;
     })
-    f.1 (ap (λ (p : Outgoing). p.waiting.items) rest ∙ f.2 (less w count)) c.move_made.ensures.made (ap (λ (p : Outgoing). p.placed) rest) (ap (λ (p : Outgoing). p.relations_sent) rest)
+    f.2 (ap (λ (p : Outgoing). p.waiting.items) rest ∙ c.pass_before_first.ensures.waiting f.0 f.1 f.2) (rw passed at c.move_made.ensures.made) (ap (λ (p : Outgoing). p.placed) rest ∙ ap (λ (p : Outgoing). p.placed) passed)
+    (ap (λ (p : Outgoing). p.relations_sent) rest ∙ ap (λ (p : Outgoing). p.relations_sent) passed)
 
-pub returns-then-count-gt0-clause-same : goal.returns-then-count-gt0-clause-same
-returns-then-count-gt0-clause-same c =
-    let selection = c.args.selection.now in
-    let s = c.args.reorder.now in
-    let o = c.args.self.now in
-    let w = c.in-Some.waiting.now in
-    let count = c.next_frame-count.result in
-    let size = (o.to + c.min.result) - o.to in
-    let out = c.next_frame-count.new.out in
-    let f = first_is o.waiting.items w c.requires.waits c.in-Some.ensures.value in
-    let told = c.next_frame-count.ensures in
-    let xs = c.deref_mut.result.now in
-    let value : xs ≡ o.frames.items = c.deref_mut.ensures.value in
-    let bytes : length xs ≡ length o.frames.items = ap (length {A = ℕ}) value in
-    let long : length out ≡ size = told.same ∙ length-take-le size (drop o.to xs) (omega (arith, length-drop o.to xs, bytes)) in
-    let low : count ≤ size = omega (arith, told.within, long) in
-    let o' : Outgoing = record o { frames = with_items o.frames (put_mid o.to size xs out); to = o.to + count; waiting = deque_with_item o.waiting 0 c.next_frame-count.new.waiting; relations_sent = c.next_frame-count.new.relations_sent } in
-    let placed : IsPlaced o o' c.next_frame-count.new.waiting f.0 size count xs out = record { front = refl; from = refl; to = refl; frames = refl; waiting = f.2 c.next_frame-count.new.waiting; made = refl; placed = refl } in
-    let whole : HoldsSame selection s s o o' =
-    made_in_place selection s o o' w c.next_frame-count.new.waiting f.0 size count xs out c.requires.good (omega arith) (room_there selection s o LEAST_ROOM c.requires.good (omega arith) c.requires.room) value (omega arith) long low f.1 placed
-    told.waiting told.makes told.sent told.capacity in
-    whole
-
-pub returns-then-waiting-count-clause-same : goal.returns-then-waiting-count-clause-same
-returns-then-waiting-count-clause-same c =
-    let selection = c.args.selection.now in
-    let s = c.args.reorder.now in
-    let o = c.args.self.now in
-    let w = c.in-Some.waiting.now in
-    let count = c.next_frame-count.result in
-    let size = (o.to + c.min.result) - o.to in
-    let out = c.next_frame-count.new.out in
-    let f = first_is o.waiting.items w c.requires.waits c.in-Some.ensures.value in
-    let told = c.next_frame-count.ensures in
-    let xs = c.deref_mut.result.now in
-    let value : xs ≡ o.frames.items = c.deref_mut.ensures.value in
-    let bytes : length xs ≡ length o.frames.items = ap (length {A = ℕ}) value in
-    let long : length out ≡ size = told.same ∙ length-take-le size (drop o.to xs) (omega (arith, length-drop o.to xs, bytes)) in
-    let low : count ≤ size = omega (arith, told.within, long) in
-    let o' : Outgoing = record o { frames = with_items o.frames (put_mid o.to size xs out); to = o.to + count; waiting = deque_with_item o.waiting 0 c.next_frame-count.new.waiting; relations_sent = c.next_frame-count.new.relations_sent } in
-    let placed : IsPlaced o o' c.next_frame-count.new.waiting f.0 size count xs out = record { front = refl; from = refl; to = refl; frames = refl; waiting = f.2 c.next_frame-count.new.waiting; made = refl; placed = refl } in
-    let whole : HoldsSame selection s s o o' =
-    made_in_place selection s o o' w c.next_frame-count.new.waiting f.0 size count xs out c.requires.good (omega arith) (room_there selection s o LEAST_ROOM c.requires.good (omega arith) c.requires.room) value (omega arith) long low f.1 placed
-    told.waiting told.makes told.sent told.capacity in
-    whole
+pub returns-then-before-gt0-clause-frames : goal.returns-then-before-gt0-clause-frames
+returns-then-before-gt0-clause-frames c =
+    let passed = c.pass_before_first.ensures.rest in
+    let rest = c.move_made.ensures.rest in
+    record {
+      front = ap (λ (p : Outgoing). p.front) rest ∙ ap (λ (p : Outgoing). p.front) passed;
+      from = ap (λ (p : Outgoing). p.from) rest ∙ ap (λ (p : Outgoing). p.from) passed;
+      low = omega (arith, c.move_made.ensures.to, ap (λ (p : Outgoing). p.to) passed);
+      high = omega (arith, c.move_made.ensures.to, c.min-count.ensures, c.requires.room, ap (λ (p : Outgoing). p.to) passed, c.move_made.ensures.size, ap (λ (p : Outgoing). length p.frames.items) passed);
+      size = c.move_made.ensures.size ∙ ap (λ (p : Outgoing). length p.frames.items) passed;
+    }
 
 pub returns-clause-same : goal.returns-clause-same
 returns-clause-same c =
-    let selection = c.args.selection.now in
-    let s = c.args.reorder.now in
-    let o = c.args.self.now in
-    let w = c.in-Some.waiting.now in
-    let count = c.next_frame-count.result in
-    let size = (o.to + c.min.result) - o.to in
-    let out = c.next_frame-count.new.out in
-    let f = first_is o.waiting.items w c.requires.waits c.in-Some.ensures.value in
-    let told = c.next_frame-count.ensures in
-    let xs = c.deref_mut.result.now in
-    let value : xs ≡ o.frames.items = c.deref_mut.ensures.value in
-    let bytes : length xs ≡ length o.frames.items = ap (length {A = ℕ}) value in
-    let long : length out ≡ size = told.same ∙ length-take-le size (drop o.to xs) (omega (arith, length-drop o.to xs, bytes)) in
-    let low : count ≤ size = omega (arith, told.within, long) in
-    let o' : Outgoing = record o { frames = with_items o.frames (put_mid o.to size xs out); to = o.to + count; waiting = deque_with_item o.waiting 0 c.next_frame-count.new.waiting; relations_sent = c.next_frame-count.new.relations_sent } in
-    let placed : IsPlaced o o' c.next_frame-count.new.waiting f.0 size count xs out = record { front = refl; from = refl; to = refl; frames = refl; waiting = f.2 c.next_frame-count.new.waiting; made = refl; placed = refl } in
-    let whole : HoldsSame selection s s o o' =
-    made_in_place selection s o o' w c.next_frame-count.new.waiting f.0 size count xs out c.requires.good (omega arith) (room_there selection s o LEAST_ROOM c.requires.good (omega arith) c.requires.room) value (omega arith) long low f.1 placed
-    told.waiting told.makes told.sent told.capacity in
-    same_then selection s s c.finish_first.new.reorder o o' c.finish_first.new.self whole c.finish_first.ensures.same
-
-pub returns-then-waiting-gt0-clause-frames : goal.returns-then-waiting-gt0-clause-frames
-returns-then-waiting-gt0-clause-frames c =
-    let rest = c.move_made.ensures.rest in
-    record { front = ap (λ (p : Outgoing). p.front) rest; from = ap (λ (p : Outgoing). p.from) rest; low = omega arith; high = omega arith; size = c.move_made.ensures.size }
-
-pub returns-then-count-gt0-clause-frames : goal.returns-then-count-gt0-clause-frames
-returns-then-count-gt0-clause-frames c =
-    let selection = c.args.selection.now in
-    let s = c.args.reorder.now in
-    let o = c.args.self.now in
-    let w = c.in-Some.waiting.now in
-    let count = c.next_frame-count.result in
-    let size = (o.to + c.min.result) - o.to in
-    let out = c.next_frame-count.new.out in
-    let f = first_is o.waiting.items w c.requires.waits c.in-Some.ensures.value in
-    let told = c.next_frame-count.ensures in
-    let xs = c.deref_mut.result.now in
-    let value : xs ≡ o.frames.items = c.deref_mut.ensures.value in
-    let bytes : length xs ≡ length o.frames.items = ap (length {A = ℕ}) value in
-    let long : length out ≡ size = told.same ∙ length-take-le size (drop o.to xs) (omega (arith, length-drop o.to xs, bytes)) in
-    let low : count ≤ size = omega (arith, told.within, long) in
-    let o' : Outgoing = record o { frames = with_items o.frames (put_mid o.to size xs out); to = o.to + count; waiting = deque_with_item o.waiting 0 c.next_frame-count.new.waiting; relations_sent = c.next_frame-count.new.relations_sent } in
-    let placed : IsPlaced o o' c.next_frame-count.new.waiting f.0 size count xs out = record { front = refl; from = refl; to = refl; frames = refl; waiting = f.2 c.next_frame-count.new.waiting; made = refl; placed = refl } in
-    let fill : IsFilled o o' =
-    filled_in_place selection s o o' w c.next_frame-count.new.waiting f.0 size count xs out c.requires.good (omega arith) (room_there selection s o LEAST_ROOM c.requires.good (omega arith) c.requires.room) value (omega arith) long low f.1 placed in
-    fill
-
-pub returns-then-waiting-count-clause-frames : goal.returns-then-waiting-count-clause-frames
-returns-then-waiting-count-clause-frames c =
-    let selection = c.args.selection.now in
-    let s = c.args.reorder.now in
-    let o = c.args.self.now in
-    let w = c.in-Some.waiting.now in
-    let count = c.next_frame-count.result in
-    let size = (o.to + c.min.result) - o.to in
-    let out = c.next_frame-count.new.out in
-    let f = first_is o.waiting.items w c.requires.waits c.in-Some.ensures.value in
-    let told = c.next_frame-count.ensures in
-    let xs = c.deref_mut.result.now in
-    let value : xs ≡ o.frames.items = c.deref_mut.ensures.value in
-    let bytes : length xs ≡ length o.frames.items = ap (length {A = ℕ}) value in
-    let long : length out ≡ size = told.same ∙ length-take-le size (drop o.to xs) (omega (arith, length-drop o.to xs, bytes)) in
-    let low : count ≤ size = omega (arith, told.within, long) in
-    let o' : Outgoing = record o { frames = with_items o.frames (put_mid o.to size xs out); to = o.to + count; waiting = deque_with_item o.waiting 0 c.next_frame-count.new.waiting; relations_sent = c.next_frame-count.new.relations_sent } in
-    let placed : IsPlaced o o' c.next_frame-count.new.waiting f.0 size count xs out = record { front = refl; from = refl; to = refl; frames = refl; waiting = f.2 c.next_frame-count.new.waiting; made = refl; placed = refl } in
-    let fill : IsFilled o o' =
-    filled_in_place selection s o o' w c.next_frame-count.new.waiting f.0 size count xs out c.requires.good (omega arith) (room_there selection s o LEAST_ROOM c.requires.good (omega arith) c.requires.room) value (omega arith) long low f.1 placed in
-    fill
+    same_then c.args.selection.now c.args.reorder.now c.args.reorder.now c.finish_first.new.reorder c.args.self.now c.put_first.new.self c.finish_first.new.self c.put_first.ensures.same c.finish_first.ensures.same
 
 pub returns-clause-frames : goal.returns-clause-frames
-returns-clause-frames c =
-    let selection = c.args.selection.now in
-    let s = c.args.reorder.now in
-    let o = c.args.self.now in
-    let w = c.in-Some.waiting.now in
-    let count = c.next_frame-count.result in
-    let size = (o.to + c.min.result) - o.to in
-    let out = c.next_frame-count.new.out in
-    let f = first_is o.waiting.items w c.requires.waits c.in-Some.ensures.value in
-    let told = c.next_frame-count.ensures in
-    let xs = c.deref_mut.result.now in
-    let value : xs ≡ o.frames.items = c.deref_mut.ensures.value in
-    let bytes : length xs ≡ length o.frames.items = ap (length {A = ℕ}) value in
-    let long : length out ≡ size = told.same ∙ length-take-le size (drop o.to xs) (omega (arith, length-drop o.to xs, bytes)) in
-    let low : count ≤ size = omega (arith, told.within, long) in
-    let o' : Outgoing = record o { frames = with_items o.frames (put_mid o.to size xs out); to = o.to + count; waiting = deque_with_item o.waiting 0 c.next_frame-count.new.waiting; relations_sent = c.next_frame-count.new.relations_sent } in
-    let placed : IsPlaced o o' c.next_frame-count.new.waiting f.0 size count xs out = record { front = refl; from = refl; to = refl; frames = refl; waiting = f.2 c.next_frame-count.new.waiting; made = refl; placed = refl } in
-    let fill : IsFilled o o' =
-    filled_in_place selection s o o' w c.next_frame-count.new.waiting f.0 size count xs out c.requires.good (omega arith) (room_there selection s o LEAST_ROOM c.requires.good (omega arith) c.requires.room) value (omega arith) long low f.1 placed in
-    filled_both o o' c.finish_first.new.self fill c.finish_first.ensures.frames
+returns-clause-frames c = filled_both c.args.self.now c.put_first.new.self c.finish_first.new.self c.put_first.ensures.frames c.finish_first.ensures.frames
 
-pub finish_first-requires-clause-good : goal.finish_first-requires-clause-good
-finish_first-requires-clause-good c =
-    let selection = c.args.selection.now in
-    let s = c.args.reorder.now in
-    let o = c.args.self.now in
-    let w = c.in-Some.waiting.now in
-    let count = c.next_frame-count.result in
-    let size = (o.to + c.min.result) - o.to in
-    let out = c.next_frame-count.new.out in
-    let f = first_is o.waiting.items w c.requires.waits c.in-Some.ensures.value in
-    let told = c.next_frame-count.ensures in
-    let xs = c.deref_mut.result.now in
-    let value : xs ≡ o.frames.items = c.deref_mut.ensures.value in
-    let bytes : length xs ≡ length o.frames.items = ap (length {A = ℕ}) value in
-    let long : length out ≡ size = told.same ∙ length-take-le size (drop o.to xs) (omega (arith, length-drop o.to xs, bytes)) in
-    let low : count ≤ size = omega (arith, told.within, long) in
-    let o' : Outgoing = record o { frames = with_items o.frames (put_mid o.to size xs out); to = o.to + count; waiting = deque_with_item o.waiting 0 c.next_frame-count.new.waiting; relations_sent = c.next_frame-count.new.relations_sent } in
-    let placed : IsPlaced o o' c.next_frame-count.new.waiting f.0 size count xs out = record { front = refl; from = refl; to = refl; frames = refl; waiting = f.2 c.next_frame-count.new.waiting; made = refl; placed = refl } in
-    let whole : HoldsSame selection s s o o' =
-    made_in_place selection s o o' w c.next_frame-count.new.waiting f.0 size count xs out c.requires.good (omega arith) (room_there selection s o LEAST_ROOM c.requires.good (omega arith) c.requires.room) value (omega arith) long low f.1 placed
-    told.waiting told.makes told.sent told.capacity in
-    whole.good
-
-pub finish_first-requires-clause-room : goal.finish_first-requires-clause-room
-finish_first-requires-clause-room c =
-    let selection = c.args.selection.now in
-    let s = c.args.reorder.now in
-    let o = c.args.self.now in
-    let w = c.in-Some.waiting.now in
-    let count = c.next_frame-count.result in
-    let size = (o.to + c.min.result) - o.to in
-    let out = c.next_frame-count.new.out in
-    let f = first_is o.waiting.items w c.requires.waits c.in-Some.ensures.value in
-    let told = c.next_frame-count.ensures in
-    let xs = c.deref_mut.result.now in
-    let value : xs ≡ o.frames.items = c.deref_mut.ensures.value in
-    let bytes : length xs ≡ length o.frames.items = ap (length {A = ℕ}) value in
-    let long : length out ≡ size = told.same ∙ length-take-le size (drop o.to xs) (omega (arith, length-drop o.to xs, bytes)) in
-    let low : count ≤ size = omega (arith, told.within, long) in
-    let o' : Outgoing = record o { frames = with_items o.frames (put_mid o.to size xs out); to = o.to + count; waiting = deque_with_item o.waiting 0 c.next_frame-count.new.waiting; relations_sent = c.next_frame-count.new.relations_sent } in
-    let placed : IsPlaced o o' c.next_frame-count.new.waiting f.0 size count xs out = record { front = refl; from = refl; to = refl; frames = refl; waiting = f.2 c.next_frame-count.new.waiting; made = refl; placed = refl } in
-    let fill : IsFilled o o' =
-    filled_in_place selection s o o' w c.next_frame-count.new.waiting f.0 size count xs out c.requires.good (omega arith) (room_there selection s o LEAST_ROOM c.requires.good (omega arith) c.requires.room) value (omega arith) long low f.1 placed in
-    let same : length o'.frames.items ≡ length o.frames.items = fill.size in
-    omega (arith, same, c.requires.room)
-
-pub finish_first-requires-clause-waits : goal.finish_first-requires-clause-waits
-finish_first-requires-clause-waits c =
-    let f = first_is c.args.self.now.waiting.items c.in-Some.waiting.now c.requires.waits c.in-Some.ensures.value in
-    subst (λ (l : List CommittedTransaction). 0 < length l) (sym (f.2 c.next_frame-count.new.waiting)) (omega arith)
+pub returns-then-has_changes_left-clause-more : goal.returns-then-has_changes_left-clause-more
+returns-then-has_changes_left-clause-more c =
+    let o = c.put_first.new.self in
+    let f = first_of o.waiting.items c.put_first.ensures.waits in
+    let left : nat_lt f.0.next (length f.0.ready.places) ≡ true = sym (c.has_changes_left.ensures f.0 f.1 f.2) ∙ c.if-has_changes_left.true in
+    let some : f.0.next < length f.0.ready.places = grind (arith, nat_tests, left) in
+    let none : c.put_first.result ≡ 0 = omega arith in (
+      omega (arith, c.put_first.ensures.moved, none),
+      ⊎_elim (λ (lacks : length o.frames.items < o.to + MAX_FRAME_LENGTH). omega (arith, lacks, c.put_first.ensures.moved, none, c.put_first.ensures.frames.size))
+          (λ (fits : o.to + MAX_FRAME_LENGTH ≤ length o.frames.items). absurd (omega (arith, some, c.put_first.ensures.over f.0 f.1 f.2 none fits))) (cases_lt (length o.frames.items) (o.to + MAX_FRAME_LENGTH)),
+    )
 
 pub finish_first-requires-clause-over : goal.finish_first-requires-clause-over
-finish_first-requires-clause-over c x xs is =
-    let f = first_is c.args.self.now.waiting.items c.in-Some.waiting.now c.requires.waits c.in-Some.ensures.value in
-    let w = c.next_frame-count.new.waiting in
-    let before = ap (λ (y : CommittedTransaction). y.before) c.next_frame-count.ensures.waiting in
-    subst (λ (y : CommittedTransaction). (y.before ≡ 0) × (length y.ready.places ≤ y.next)) (same_first w x f.0 xs (sym (f.2 w) ∙ is)) (omega (arith, before), omega arith)
+finish_first-requires-clause-over c w ws is =
+    let none : nat_lt w.next (length w.ready.places) ≡ false = sym (c.has_changes_left.ensures w ws is) ∙ c.if-has_changes_left.false in
+    (c.put_first.ensures.first w ws is, grind (arith, nat_tests, none))

@@ -2,7 +2,7 @@ use Rattle.std.proofs.Common.{ap}
 use Rattle.std.specs.Int.{w64}
 use Rattle.std.proofs.lemmas.Int.{to_z-of_z}
 use Rattle.shared_log.specs.Readers.{seen_of}
-use Rattle.walsender.proofs.ServedTurns.{first, reads, turned}
+use Rattle.walsender.proofs.ServedTurns.{first, reads, turned, turns_so}
 use Rattle.walsender.proofs.walsender.Walsender.turn.Goals as goal
 
 pub returns-clause-serves : goal.returns-clause-serves
@@ -11,15 +11,7 @@ returns-clause-serves g c =
     let old = c.args.self.now in
     turned c.args.clock old.sender c.turn.new.sender old.reader.place c.turn.new.reader.place (seen_of old.reader) (seen_of c.turn.new.reader) (g.W.Write.contents c.args.to.now) (g.W.Write.contents c.turn.new.out)
     c.turn.result c.ranges.clock told.grows
-    (record {
-      moved = told.moved;
-      good = λ is. (told.fresh is).1;
-      unfetched = λ is. let u = told.unfetched is in (u.0, u.1);
-      sent = told.sent;
-      broken = told.broken;
-      refused = told.refused;
-      silent = λ is. ap g.W.Write.contents (c.turn.ensures.silent is);
-    })
+    (turns_so told.moved (λ is. (told.fresh is).1) (λ is. let u = told.unfetched is in (u.0, u.1)) told.sent told.broken told.refused (λ is. ap g.W.Write.contents (c.turn.ensures.silent is)))
 
 pub returns-clause-first : goal.returns-clause-first
 returns-clause-first g c =
@@ -27,15 +19,7 @@ returns-clause-first g c =
     let old = c.args.self.now in
     first c.args.clock old.sender c.turn.new.sender old.reader.place c.turn.new.reader.place (seen_of old.reader) (seen_of c.turn.new.reader) (g.W.Write.contents c.args.to.now) (g.W.Write.contents c.turn.new.out)
     c.turn.result told.grows
-    (record {
-      moved = told.moved;
-      good = λ is. (told.fresh is).1;
-      unfetched = λ is. let u = told.unfetched is in (u.0, u.1);
-      sent = told.sent;
-      broken = told.broken;
-      refused = told.refused;
-      silent = λ is. ap g.W.Write.contents (c.turn.ensures.silent is);
-    })
+    (turns_so told.moved (λ is. (told.fresh is).1) (λ is. let u = told.unfetched is in (u.0, u.1)) told.sent told.broken told.refused (λ is. ap g.W.Write.contents (c.turn.ensures.silent is)))
 
 pub returns-clause-reads : goal.returns-clause-reads
 returns-clause-reads g c =
@@ -43,12 +27,4 @@ returns-clause-reads g c =
     let old = c.args.self.now in
     reads c.args.clock old.sender c.turn.new.sender old.reader.place c.turn.new.reader.place (seen_of c.turn.new.reader) (g.W.Write.contents c.args.to.now) (g.W.Write.contents c.turn.new.out)
     c.turn.result
-    (record {
-      moved = told.moved;
-      good = λ is. (told.fresh is).1;
-      unfetched = λ is. let u = told.unfetched is in (u.0, u.1);
-      sent = told.sent;
-      broken = told.broken;
-      refused = told.refused;
-      silent = λ is. ap g.W.Write.contents (c.turn.ensures.silent is);
-    })
+    (turns_so told.moved (λ is. (told.fresh is).1) (λ is. let u = told.unfetched is in (u.0, u.1)) told.sent told.broken told.refused (λ is. ap g.W.Write.contents (c.turn.ensures.silent is)))

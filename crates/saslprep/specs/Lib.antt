@@ -1,0 +1,2 @@
+pub mod CodeSets
+pub mod Refusing
