@@ -92,17 +92,28 @@ class Publisher:
     def __init__(self, configuration):
         self.configuration = configuration
         self.log, self.end, self.next_xid = [], FIRST, FIRST_XID
+        # How many of its records were given back: the log has room for as many more.
+        self.given = 0
         self.live = {}
         self.rows = {table.oid: {} for table in configuration.tables}
 
     # ---- THE LOG
 
     def room(self):
-        return self.configuration.records - len(self.log) - len(self.live)
+        return self.configuration.records + self.given - len(self.log) - len(self.live)
 
     def asks_room(self):
         if self.room() < 1:
             raise Refused("S7")
+
+    def give_back(self, needed):
+        """What stands before the record ahead of where a stream from a position begins to read, and before all transactions in progress."""
+        self.given = max(self.given, min(restart_place(self.log, needed) - 1, restart_place(self.log, self.end)))
+
+    def lacks(self, position):
+        """Whether a stream from a position may need what was given back."""
+        front = self.log[self.given].start if self.given < len(self.log) else self.end
+        return self.given > 0 and (position < front or restart_place(self.log, position) < self.given)
 
     def write(self, kind, payload, **members):
         record = Record(self.end, self.end + 16 + rounded(payload), kind, **members)
@@ -312,3 +323,13 @@ def uuid_of(text):
     if [len(group) for group in groups] != [8, 4, 4, 4, 12] or not set("".join(groups)) <= set("0123456789abcdefABCDEF"):
         raise Refused("S2")
     return uuid.UUID(text)
+
+
+def restart_place(log, start):
+    """Where a stream from a position begins to read: at the earliest record before it whose transaction is in progress there."""
+    before = [record for record in log if record.start < start]
+    over = {id(record.transaction) for record in before if record.kind in ("commit", "abort")}
+    for place, record in enumerate(before):
+        if record.kind != "note" and id(record.transaction) not in over:
+            return place
+    return len(before)

@@ -109,6 +109,8 @@ class Draw:
             return "note", self.prefix(), self.content()
         if dice < 0.57:
             return "slot", self.by.choice(SLOTS)
+        if dice < 0.6:
+            return (self.by.choice(["forget", "forget", "front"]),)
         return self.of_connection(self.by.choice(CONNECTIONS))
 
     def of_session(self, name):

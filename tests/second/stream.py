@@ -3,7 +3,7 @@ import struct
 import uuid
 
 from catalogue import AS_TEXT, OIDS
-from publisher import Refused
+from publisher import Refused, restart_place
 
 # A text of more bytes isn't sent again where an update leaves it.
 LONGEST_SENT_AGAIN = 2000
@@ -180,13 +180,3 @@ class Sender:
         begin = b"B" + struct.pack(">QqI", commit.start, commit.time, commit.transaction.xid)
         end = b"C" + struct.pack(">BQQq", 0, commit.start, commit.end, commit.time)
         return xlogdata(commit.start, clock, begin) + changes + xlogdata(commit.end, clock, end)
-
-
-def restart_place(log, start):
-    """Where a stream from a position begins to read: at the earliest record before it whose transaction is in progress there."""
-    before = [record for record in log if record.start < start]
-    over = {id(record.transaction) for record in before if record.kind in ("commit", "abort")}
-    for place, record in enumerate(before):
-        if record.kind != "note" and id(record.transaction) not in over:
-            return place
-    return len(before)

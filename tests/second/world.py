@@ -25,15 +25,19 @@ class World:
         self.publisher = Publisher(configuration)
         # The confirmed position of each slot; what runs on each connection; what each start produced; the subscribers.
         self.slots, self.running, self.starts, self.subscribers = {}, {}, [], {}
-        self.refused = []
+        # What the lines that were refused, or asked for the front, are answered.
+        self.told = []
 
     def run(self, events):
         """Each event is a word and what it is given. Answers what is printed."""
         for number, (word, *given) in events:
             try:
-                self.event(word, *given)
+                if word == "front":
+                    self.told.append((number, f"front {self.publisher.given}"))
+                else:
+                    self.event(word, *given)
             except Refused as refused:
-                self.refused.append((number, refused.args[0]))
+                self.told.append((number, refused.args[0]))
         return self.printed()
 
     def event(self, word, *given):
@@ -51,6 +55,8 @@ class World:
             self.slot(*given)
         elif word == "start":
             self.start(*given)
+        elif word == "forget":
+            self.publisher.give_back(min([self.publisher.end, *self.slots.values(), *(each.sender.position for each in self.running.values())]))
         else:
             if given[0] not in self.running:
                 raise Impossible
@@ -74,6 +80,8 @@ class World:
         if slot is not None and any(each.slot == slot for each in self.running.values()):
             raise Refused("L2")
         begins = max(position, self.slots.get(slot, 0))
+        if self.publisher.lacks(begins):
+            raise Refused("L9")
         self.running[name] = Connection(Sender(selection, begins, self.publisher), slot)
         self.starts.append((name, self.running[name]))
         self.subscribers.setdefault(name, Subscriber())
@@ -115,7 +123,7 @@ class World:
         self.subscribers[name].reconnect()
 
     def printed(self):
-        lines = [f"{number} {code}" for number, code in self.refused]
+        lines = [f"{number} {said}" for number, said in self.told]
         lines += [f"{name}:{connection.produced.hex()}" for name, connection in self.starts]
         lines += [f"slot {name} {position_text(position)}" for name, position in self.slots.items()]
         lines += [f"sub {name} {position_text(each.position)} {each.applied}" for name, each in self.subscribers.items() if each.has_taken]

@@ -42,7 +42,7 @@ impl Arrival {
         drop(arriving);
     }
 
-    /// The connection that came.
+    /// The connection that came. None: it was taken already, or none came.
     pub fn take<R: Wait>(&self, rt: &R) -> Option<TcpStream> {
         let mut arriving = self.arriving.lock(rt);
         let socket = mem::replace(&mut arriving.socket, None);
@@ -68,7 +68,7 @@ impl Arrival {
         self.settled.notify_all();
     }
 
-    /// Waits until all of its threads run, and answers the connection where it can't be served, and why.
+    /// Waits until all of its threads run, and answers the connection where it can't be served, and why. None: it was taken.
     pub fn settled<R: Wait>(&self, rt: &R) -> Option<(TcpStream, Unserved)> {
         let arriving = self.arriving.lock(rt);
         let mut arriving = self

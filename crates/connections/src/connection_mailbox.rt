@@ -35,8 +35,9 @@ impl<S> ConnectionMailbox<S> {
 
     // ---- the reading thread
 
-    /// Has these words said, after those before, and the conversation at this phase then. Where those before aren't written by
-    /// this time on the clock, no startup has come to its end.
+    /// Has these words said, after those before, and the conversation at this phase then. `NoStartup` where those before aren't
+    /// written by this time on the clock, since no startup has come to its end then; `Lost` where the clock can't be read for that,
+    /// `Client` where nothing is written any more.
     pub fn say<R: Wait + Clock>(
         &self,
         rt: &R,
@@ -102,7 +103,7 @@ impl<S> ConnectionMailbox<S> {
         before
     }
 
-    /// Waits until the stream that stops has ended.
+    /// Waits until the stream that stops has ended. `Client` where nothing is written any more.
     pub fn await_end<R: Wait>(&self, rt: &R) -> Result<(), ConnectionEnd> {
         let mut inbox = self
             .taken

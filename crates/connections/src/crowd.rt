@@ -17,7 +17,7 @@ use std::time::{Clock, Duration};
 /// What a server says to who asks for encryption and gets none.
 const NO: u8 = b'N';
 
-/// How many requests for encryption are answered: PostgreSQL's clients make one of each kind.
+/// How many requests for encryption are answered: PostgreSQL's clients make one of each kind (PostgreSQL 15, 55.2.10 and 55.2.11).
 const MOST_REQUESTS: u32 = 2;
 
 /// How many bytes are read at once.
@@ -36,7 +36,8 @@ pub enum Due {
     Nothing,
 }
 
-/// What is due for these bytes.
+/// What is due for these bytes: `Wait` while they are no whole startup, `No` for a request of encryption, `Nothing` for one to
+/// cancel a query, `Refusal` for any other startup and for what is none (PostgreSQL 15, 55.2).
 pub fn due_in_crowd(alloc: Global, bytes: &[u8]) -> Due
     ensures { result ≡ due_in_crowd (framed_startup bytes.now) }
 {

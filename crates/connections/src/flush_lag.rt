@@ -12,8 +12,8 @@ pub struct Sent {
     at: u64,
 }
 
-/// How long a client takes to confirm what was sent to it, as `flush_lag` of PostgreSQL's pg_stat_replication, by one position at a
-/// time: the next one is chosen once it was confirmed.
+/// How long a client takes to confirm what was sent to it, as `flush_lag` of pg_stat_replication (PostgreSQL 15, 28.2.4), by one
+/// position at a time: the next one is chosen once it was confirmed.
 #[derive(Clone, Copy)]
 pub struct FlushLag {
     /// What isn't confirmed yet.

@@ -32,7 +32,7 @@ impl FreePlace {
     }
 }
 
-/// The first places of so many lines.
+/// The first places of so many lines. `AllocError` where memory is refused.
 pub(crate) fn first_places(alloc: Global, lines: usize) -> Result<Vec<FreePlace>, AllocError> {
     let mut places = Vec::with_capacity(alloc, lines)?;
     for line in 0..lines {

@@ -17,7 +17,8 @@ pub struct Hold<L: SlotName> {
 }
 
 impl<L: SlotName> Hold<L> {
-    /// Claims the slot at this place. L1 and L2 give the seat back.
+    /// Claims the slot at this place. `Missing` (L1) where there is none, `InUse` (L2) where it is held; with them the seat comes
+    /// back.
     pub fn claim(
         slots: &SlotTable<L>,
         mut seat: SlotSeat<L>,

@@ -206,7 +206,7 @@ impl Inbox {
         self.early = Some(self.early.unwrap_or(end));
     }
 
-    /// Why no more could be written.
+    /// Why no more could be written. None: nothing has failed.
     pub fn early(&self) -> Option<ConnectionEnd>
         ensures { result ≡ self.now.early }
     {

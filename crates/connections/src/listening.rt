@@ -21,7 +21,7 @@ const ENOTSOCK: i32 = 88;
 const EOPNOTSUPP: i32 = 95;
 
 /// The next connection. It sends what is written at once, a read that waits for so long gives up, and so does a write of which its
-/// client takes nothing for so long.
+/// client takes nothing for so long. The system's error where none comes, or one that can't be set so.
 pub fn next_socket(
     listener: &TcpListener,
     silence: Option<Duration>,
@@ -36,7 +36,7 @@ pub fn next_socket(
 }
 
 /// Has the system ask a client that says nothing whether it is there still: after two hours, unless the system is told otherwise
-/// (tcp(7)), as PostgreSQL does. Where it can't be had, the connection is served all the same.
+/// (tcp(7)), as PostgreSQL does (PostgreSQL 15, 20.3). Where it can't be had, the connection is served all the same.
 fn keep_alive(socket: &TcpStream) {
     let mut on = [0; 16];
     on[0] = 1;

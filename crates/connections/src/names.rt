@@ -24,7 +24,7 @@ pub struct Names<L: SlotName> {
 }
 
 impl<L: SlotName> Names<L> {
-    /// No names, of at most so many.
+    /// No names, of at most so many. `AllocError` where memory is refused; the seat is gone then.
     pub fn new(alloc: Global, seat: SlotSeat<L>, most: usize) -> Result<Self, AllocError>
         ensures { IfOk result (λ names. names.most ≡ most) }
     {
@@ -42,7 +42,7 @@ impl<L: SlotName> Names<L> {
         }
     }
 
-    /// The place of the slot of this name.
+    /// The place of the slot of this name. None: there is none.
     pub fn place_of(&self, name: &str) -> Option<usize>
         ensures named { result ≡ place_of self.now.directory name.now }
         ensures inside { IfSome result (λ place. place < END_OF_PLACES) }
@@ -50,8 +50,9 @@ impl<L: SlotName> Names<L> {
         self.directory.find(name)
     }
 
-    /// Makes a slot of a new name, which is free, with this position confirmed, or the one of its line if that is further. L3 where
-    /// the name is there, then L4 where there are as many slots as may be, then L5, which has used up a place.
+    /// Makes a slot of a new name, which is free, with this position confirmed, or the one of its line if that is further. `Exists`
+    /// (L3) where the name is there, then `NoPlace` (L4) where there are as many slots as may be, then `Memory` (L5), which has
+    /// used up a place.
     pub fn create(
         &mut self,
         slots: &SlotTable<L>,
@@ -84,7 +85,7 @@ impl<L: SlotName> Names<L> {
         Ok(())
     }
 
-    /// Drops the slot of this name. L1 where there is none, L2 where it is held.
+    /// Drops the slot of this name. `Missing` (L1) where there is none, `InUse` (L2) where it is held.
     pub fn drop_slot(&mut self, slots: &SlotTable<L>, name: &str) -> Result<(), SlotFault>
         ensures ok { OnOk result
             ((place : ℕ) × (place_of self.old.directory name.now ≡ Some place)

@@ -56,7 +56,7 @@ impl Patience {
     }
 
     /// The next read waits no longer than the startup may take yet, and after it for as long as nothing may come. Nothing is left
-    /// of the startup's limit then.
+    /// of the startup's limit then. `NoStartup` where the startup may take no longer, `Lost` where the clock or the socket fails.
     pub fn limit_wait<R: Clock>(
         &mut self,
         rt: &R,
@@ -106,7 +106,7 @@ impl Patience {
     }
 }
 
-/// How much time is left until then, at which no startup has come.
+/// How much time is left until then. `NoStartup` where that has come, `Lost` where the clock can't be read.
 pub fn left_until<R: Clock>(rt: &R, until: Duration) -> Result<Duration, ConnectionEnd> {
     match rt.monotonic() {
         Ok(now) if now < until => {
@@ -118,7 +118,7 @@ pub fn left_until<R: Clock>(rt: &R, until: Duration) -> Result<Duration, Connect
     }
 }
 
-/// Reads more for the connection.
+/// Reads more for the connection. `Client` where it closed, `Lost` where it can't be read, `Memory` where memory is refused.
 // The buffer isn't on the stack while a command is answered.
 #[inline(never)]
 pub fn read_more(
@@ -137,7 +137,8 @@ pub fn read_more(
     }
 }
 
-/// What a read has brought that failed so. A client that closes before it has read all resets its connection.
+/// What a read has brought that failed so. `Client` where the client has reset its connection, as it does by closing before it has
+/// read all; `Lost` of any other failure.
 pub fn without_bytes(fault: &io::Error) -> Result<Came, ConnectionEnd>
     ensures nothing { error_kind fault.now ≡ ErrorKind.WouldBlock → result ≡ Ok Came.Nothing }
     ensures signal { error_kind fault.now ≡ ErrorKind.Interrupted → result ≡ Ok Came.Signal }

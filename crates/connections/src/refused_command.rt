@@ -4,7 +4,7 @@ use pqformat::Text;
 use server::{BackendFault, Refusal};
 use std::fmt;
 
-/// How many publications are told of, and how many bytes of each: PostgreSQL's names have no more.
+/// How many publications are told of, and how many bytes of each: PostgreSQL's names have no more (PostgreSQL 15, 4.1.1).
 const MOST_NAMES: usize = 8;
 
 const MOST_BYTES: usize = 63;

@@ -234,7 +234,7 @@ impl SlotMonitor {
         if_open(known, is_met)
     }
 
-    /// The same until a stream of the slot runs.
+    /// The same until a stream of the slot runs, None as there.
     pub fn await_stream<R: Wait + Clock>(&self, rt: &R, patience: Duration) -> Option<bool> {
         let known = self.known.lock(rt);
         let (known, _) = self.moved.wait_timeout_while(rt, known, patience, |known| {
@@ -262,7 +262,7 @@ impl SlotMonitor {
         holds
     }
 
-    /// What is known of the slot here. None: there is none.
+    /// What is known of the slot here. None: there is none. `AllocError` where memory for it is refused.
     pub fn look<R: Wait>(&self, rt: &R, alloc: Global) -> Result<Option<SlotSnapshot>, AllocError> {
         self.known.lock(rt).copy(alloc)
     }

@@ -82,7 +82,7 @@ impl SlotSnapshot {
         known
     }
 
-    /// A copy, for whoever looks. None: no slot is there.
+    /// A copy, for whoever looks. None: no slot is there. `AllocError` where memory for it is refused.
     pub(crate) fn copy(&self, alloc: Global) -> Result<Option<Self>, AllocError> {
         if !self.is_open {
             return Ok(None);

@@ -33,7 +33,8 @@ impl Sockets {
         self.is_ending.load(Ordering::SeqCst)
     }
 
-    /// A connection of this number is served by this socket, or why it can't be.
+    /// A connection of this number is served by this socket. `Descriptor` where the system gives no second handle of it,
+    /// `ServerEnd` where no more are served, `Memory` where memory is refused.
     pub fn enter<R: Wait>(&self, rt: &R, number: u32, socket: &TcpStream) -> Result<(), Unserved> {
         let Ok(socket) = socket.try_clone() else {
             return Err(Unserved::Descriptor);

@@ -62,7 +62,7 @@ impl StreamError {
     }
 }
 
-/// Writes the ErrorResponse that tells it.
+/// Writes the ErrorResponse that tells it (PostgreSQL 15, 55.8). The writer's error, or `OutOfMemory` where memory is refused.
 pub fn write_stream_error<W: Write>(
     alloc: Global,
     stream_error: StreamError,
@@ -77,7 +77,7 @@ pub fn write_stream_error<W: Write>(
     to.write_all(frame.as_slice())
 }
 
-/// Adds that ErrorResponse to what is to be written.
+/// Adds that ErrorResponse to what is to be written. `AllocError` where memory is refused.
 #[tactic(auto, unfolding(crate::specs::StreamErrors::told_stream_error, pqformat::specs::Fields::int32))]
 pub fn say_stream_error(
     alloc: Global,

@@ -32,7 +32,8 @@ enum End {
     CopyBothResponse,
 }
 
-/// Asks for the stream, up to its first frame.
+/// Asks for the stream, up to its first frame. Faults as of `greet`, then of a slot that is created (`Server`, K4, where it is
+/// there), then of `start_stream`.
 pub(crate) fn ask_for_stream<R: Wait + RandomSource, S: Read + Write>(
     rt: &R,
     alloc: Global,
@@ -47,7 +48,9 @@ pub(crate) fn ask_for_stream<R: Wait + RandomSource, S: Read + Write>(
     start_stream(rt, alloc, incoming, socket, options, options.position)
 }
 
-/// Says the startup, and proves the password where the server asks for one.
+/// Says the startup, and proves the password where the server asks for one. `Login` (K9) where that comes to nothing or the user's
+/// name can't be one, `Server` (K4) where the server refuses, `Client` where it says what belongs to no answer (K1, K2) or memory
+/// is refused (K5), `Connection`, `Silent` or `Ended` (K6).
 pub(crate) fn greet<R: Wait + RandomSource, S: Read + Write>(
     rt: &R,
     alloc: Global,
@@ -71,7 +74,8 @@ fn say_startup<S: Write>(alloc: Global, socket: &mut S, user: &str) -> Result<()
         .map_err(FollowFault::Connection)
 }
 
-/// Asks the server which system it is: the first value of the row that answers IDENTIFY_SYSTEM (PostgreSQL 15, 55.4).
+/// Asks the server which system it is: the first value of the row that answers IDENTIFY_SYSTEM (PostgreSQL 15, 55.4). `Client` (K2)
+/// where it tells none; else faults as of `start_stream`.
 pub(crate) fn ask_system<R: Wait, S: Read + Write>(
     rt: &R,
     alloc: Global,
@@ -139,7 +143,7 @@ fn create<R: Wait, S: Read + Write>(
     wait_for(rt, incoming, socket, End::ReadyForQuery)
 }
 
-/// Creates the slot, unless there is one.
+/// Creates the slot, unless there is one (42710, PostgreSQL 15, appendix A). Else faults as of `start_stream`.
 pub(crate) fn create_if_absent<R: Wait, S: Read + Write>(
     rt: &R,
     alloc: Global,
@@ -158,7 +162,9 @@ pub(crate) fn create_if_absent<R: Wait, S: Read + Write>(
     }
 }
 
-/// Asks for the stream from a position on, up to its first frame.
+/// Asks for the stream from a position on, up to its first frame. `LongCommand` (K6) where the command with these names is too
+/// long, `Server` (K4) where the server refuses, `Client` where it says what belongs to no answer (K1, K2) or memory is refused
+/// (K5), `Connection`, `Silent` or `Ended` (K6).
 pub(crate) fn start_stream<R: Wait, S: Read + Write>(
     rt: &R,
     alloc: Global,
@@ -214,7 +220,7 @@ fn send_query<S: Write>(alloc: Global, socket: &mut S, text: String) -> Result<(
     send(alloc, socket, &query)
 }
 
-/// Sends a frame.
+/// Sends a frame. `Connection` (K6), or `Client` (K5) where memory for its bytes is refused.
 pub(crate) fn send<S: Write>(
     alloc: Global,
     socket: &mut S,

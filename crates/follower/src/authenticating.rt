@@ -9,8 +9,7 @@ use bytes::BytesMut;
 use client::ClientFault;
 use frames::Back;
 use pqformat::Items;
-use saslprep::prepared;
-use scram::{ClientAnswer, ClientExchange, MECHANISM, base64_of};
+use scram::{ClientAnswer, ClientExchange, MECHANISM, base64_of, prepared};
 use std::alloc::Global;
 use std::io::{Read, Write};
 use std::random::RandomSource;
@@ -19,8 +18,10 @@ use std::sync::Wait;
 /// How many random bytes a nonce is made of, as PostgreSQL's clients make theirs.
 const NONCE_BYTES: usize = 18;
 
-/// Answers what the server asks for until it takes the client: nothing, or a proof of the password. Another server than one that
-/// knows the password isn't gone on with. Whether it asks is the server's choice, as it is with PostgreSQL's clients.
+/// Answers what the server asks for until it takes the client: nothing, or a proof of the password (PostgreSQL 15, 55.3.1). Another
+/// server than one that knows the password isn't gone on with. Whether it asks is the server's choice, as it is with PostgreSQL's
+/// clients. `Login` (K9) where it asks for what isn't given, or proves nothing; `Server` (K4) where it refuses; `Client` (K1, K2)
+/// where it says what belongs to no exchange.
 pub(crate) fn authenticate<R: Wait + RandomSource, S: Read + Write>(
     rt: &R,
     alloc: Global,

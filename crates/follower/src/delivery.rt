@@ -66,7 +66,8 @@ impl Delivery {
         self.clock = clock;
     }
 
-    /// Takes a frame, and does what it asks for.
+    /// Takes a frame, and does what it asks for. `Client` where an applier refuses it (K1 to K3, K5, K8), `Server` (K4) where it
+    /// tells an error, `Ended` (K6) where the stream ends; else faults as of `acknowledge`.
     pub(crate) fn take<S: Write, W: Output>(
         &mut self,
         frame: Back,
@@ -172,7 +173,7 @@ impl Delivery {
         self.print(output)
     }
 
-    /// Acknowledges what is there, where something is.
+    /// Acknowledges what is there, where something is. Faults as of `acknowledge`.
     #[tactic(auto, using(crate::proofs::Going::goes_nowhere))]
     pub(crate) fn settle<S: Write, W: Output>(
         &mut self,
@@ -192,7 +193,8 @@ impl Delivery {
         self.acknowledge(false, socket, output)
     }
 
-    /// Tells the server the position, after what was printed, and may ask for a keepalive.
+    /// Tells the server the position, after what was printed, and may ask for a keepalive. Faults as of `print`, then `Connection`
+    /// (K6).
     pub(crate) fn acknowledge<S: Write, W: Output>(
         &mut self,
         ask: bool,
@@ -226,7 +228,7 @@ impl Delivery {
         send(&status, socket)
     }
 
-    /// The last status, and the end of the stream.
+    /// The last status, and the end of the stream. `Connection` (K6), or `Client` (K5) where memory is refused.
     pub(crate) fn end_stream<S: Write>(&self, socket: &mut S) -> Result<(), FollowFault>
         requires { self.now.receiver.applier.subscriber.applied ≡ [] }
         ensures goes { (unread : List ℕ) (written : Option (List ℕ)) → Goes
@@ -239,7 +241,8 @@ impl Delivery {
         send(end.as_slice(), socket)
     }
 
-    /// Prints what is there, and has it kept.
+    /// Prints what is there, and has it kept. `Client` where a row doesn't fit its table (K2), that wasn't told (K3), or memory for
+    /// the lines is refused (K5): then nothing was printed. `Output` (K6) where the output fails.
     pub(crate) fn print<W: Output>(&mut self, output: &mut W) -> Result<(), FollowFault>
         ensures goes { (unread : List ℕ) (sent : Option (List ℕ)) → Goes
             (standing self.old unread (W.contents output.old) (W.kept output.old) sent)
@@ -258,7 +261,8 @@ impl Delivery {
         Ok(())
     }
 
-    /// Prints what stands after all, once all is printed.
+    /// Prints what stands after all, once all is printed. `Client` (K5) where memory is refused, `Output` (K6) where the output
+    /// fails.
     pub(crate) fn print_last<W: Output>(&mut self, output: &mut W) -> Result<(), FollowFault>
         requires { self.old.receiver.applier.subscriber.applied ≡ [] }
         ensures goes { (unread : List ℕ) (sent : Option (List ℕ)) → Goes

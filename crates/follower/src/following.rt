@@ -24,8 +24,10 @@ use std::time::Clock;
 /// after each message outside of a transaction, it tells the server its position, and once it has as many of these as it should it
 /// ends the stream, and reads no more. Then it prints the last line of the form, if it has one.
 ///
-/// K4 is what the server refused, K9 where a password isn't proved that it asks for, or where it doesn't know it. K1 to K3, K5 and K8 are those of an applier. K6 comes where the connection or the output failed,
-/// where the connection ended early, or where a command with these names is too long to be sent.
+/// `Server` (K4) is what the server refused, `Login` (K9) that a password isn't proved that it asks for, or that it doesn't know
+/// it. `Client` is a fault of an applier (K1 to K3, K5, K8). K6 comes where a command with these names is too long to be sent
+/// (`LongCommand`), where the connection failed (`Connection`), fell silent (`Silent`) or ended early (`Ended`), or where the
+/// output failed (`Output`).
 pub fn follow<R: Wait + Clock + RandomSource, S: Read + Write, W: Write>(
     rt: &R,
     alloc: Global,

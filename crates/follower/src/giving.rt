@@ -6,7 +6,8 @@ ghost use Rattle.std.specs.Io.KnownBytes.{Appends, WriteAppends};
 use std::io;
 use std::io::{ErrorKind, Write};
 
-/// Writes all of the bytes, and answers how many the writer took.
+/// Writes all of the bytes, and answers how many the writer took, with its error where that isn't all of them. The turns are
+/// counted, since a signal may end each: so many never come.
 pub(crate) fn give<W: Write>(bytes: &[u8], to: &mut W) -> (usize, io::Result<()>)
     ensures within { result.0 ≤ length bytes.now }
     ensures taken { Appends (W.contents to.old) (W.contents to.new) (take result.0 bytes.now) }

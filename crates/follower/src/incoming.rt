@@ -32,7 +32,8 @@ impl Incoming {
         }
     }
 
-    /// The next frame, and how many of the bytes at the front are its own.
+    /// The next frame, and how many of the bytes at the front are its own. `Client` where it is none (K1) or memory is refused
+    /// (K5), `Connection`, `Silent` or `Ended` (K6).
     pub(crate) fn next<R: Wait, S: Read>(
         &mut self,
         rt: &R,
@@ -47,12 +48,12 @@ impl Incoming {
         Err(FollowFault::Ended)
     }
 
-    /// The frame at the front, if it has come whole, and its length.
+    /// The frame at the front, if it has come whole, and its length. `Client` where it is none (K1) or memory is refused (K5).
     pub(crate) fn whole(&self) -> Result<Option<(Back, usize)>, FollowFault> {
         Ok(read_back(self.alloc, self.unread.as_slice())?)
     }
 
-    /// The next request of one who asks who is there, which is passed over; None where another frame comes.
+    /// The next request of one who asks who is there, which is passed over; None where another frame comes. Faults as of `next`.
     pub(crate) fn next_request<R: Wait, S: Read>(
         &mut self,
         rt: &R,
@@ -93,7 +94,7 @@ impl Incoming {
         came(self.unread.read_from(socket))
     }
 
-    /// Waits for more of a stream.
+    /// Waits for more of a stream. `Connection`, `Silent` or `Ended` (K6), or `Client` (K5) where memory is refused.
     pub(crate) fn receive_more<S: Peer>(&mut self, socket: &mut S) -> Result<(), FollowFault>
         ensures sent { Keeps (S.contents socket.old) (S.contents socket.new) }
         ensures more { (more : List ℕ) × (self.new.unread.items ≡ self.old.unread.items ++ more) }

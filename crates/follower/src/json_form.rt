@@ -10,7 +10,7 @@ use crate::whole::whole;
 use message_lines::{begins_one, end_of, is_change_line, is_note_line};
 use std::alloc::{AllocError, Global};
 
-/// What the line tells.
+/// What the line tells. `AllocError` where memory to read it is refused.
 pub(crate) fn json_line(alloc: Global, text: &[u8]) -> Result<Line, AllocError>
     ensures length { IfOk result (λ told. told.length ≡ length text.now) }
     ensures begins { IfOk result (λ told. Tells text.now told.begins told.is_note told.is_change) }

@@ -44,7 +44,7 @@ impl JsonTranscript {
         self.send_times.is_some()
     }
 
-    /// The message was sent at this time of the server's clock.
+    /// The message was sent at this time of the server's clock. `AllocError` where memory to keep it is refused.
     pub(crate) fn note_sent(&mut self, message: &Logical, clock: i64) -> Result<(), AllocError> {
         match (&mut self.send_times, message) {
             (Some(times), Logical::Commit(commit)) => times.note(commit.end, clock),
@@ -63,13 +63,14 @@ impl JsonTranscript {
         }
     }
 
+    /// Keeps what is told of a table. `AllocError` where memory for it is refused.
     pub(crate) fn tell(&mut self, relation: Relation) -> Result<(), AllocError> {
         let oid = relation.oid;
         self.tables.insert(oid, relation)?;
         Ok(())
     }
 
-    /// Adds the lines of a transaction, or the one line of a note.
+    /// Adds the lines of a transaction, or the one line of a note. Faults as of `add_message`.
     pub(crate) fn add(
         &mut self,
         transaction: &Applied,
@@ -94,7 +95,8 @@ impl JsonTranscript {
         Ok(())
     }
 
-    /// Adds the line of a message, or one for each table of a Truncate. A Relation has none.
+    /// Adds the line of a message, or one for each table of a Truncate. A Relation has none. `Client` where its table wasn't told
+    /// (K3), where a row has another count of values than that (K2), or where memory is refused (K5).
     pub(crate) fn add_message(
         &mut self,
         position: u64,
@@ -199,7 +201,7 @@ impl JsonTranscript {
         Ok(())
     }
 
-    /// The line after all others.
+    /// The line after all others. `AllocError` where memory for it is refused.
     pub(crate) fn summary(&self) -> Result<Vec<u8>, AllocError> {
         let kept = &self.kept;
         summary_line(self.alloc, kept.transactions, kept.changes, kept.position)

@@ -23,7 +23,7 @@ pub(crate) struct Line {
 }
 
 impl Line {
-    /// What a line of this form tells.
+    /// What a line of this form tells. `AllocError` where memory to read one of JSON is refused.
     pub(crate) fn of(alloc: Global, form: Form, text: &[u8]) -> Result<Self, AllocError>
         ensures { IfOk result (λ line. IsLineOf form text.now line) }
     {

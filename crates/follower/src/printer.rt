@@ -33,7 +33,7 @@ impl Printer {
         }
     }
 
-    /// The message was sent at this time of the server's clock.
+    /// The message was sent at this time of the server's clock. `AllocError` where memory to keep it is refused.
     pub(crate) fn note_sent(&mut self, message: &Logical, clock: i64) -> Result<(), AllocError> {
         match self {
             Printer::Text(_) => Ok(()),
@@ -49,7 +49,7 @@ impl Printer {
         }
     }
 
-    /// Keeps what is told of a table.
+    /// Keeps what is told of a table. `AllocError` where memory for it is refused.
     pub(crate) fn tell(&mut self, relation: Relation) -> Result<(), AllocError> {
         match self {
             Printer::Text(transcript) => {
@@ -62,7 +62,8 @@ impl Printer {
         }
     }
 
-    /// Adds the lines of a transaction, or the one line of a note.
+    /// Adds the lines of a transaction, or the one line of a note. `Client` where a row doesn't fit its table (K2), where that
+    /// wasn't told (K3), or where memory is refused (K5).
     pub(crate) fn add(
         &mut self,
         transaction: &Applied,
@@ -74,7 +75,7 @@ impl Printer {
         }
     }
 
-    /// What is printed after all transactions.
+    /// What is printed after all transactions. `AllocError` where memory for it is refused.
     pub(crate) fn last(&self, alloc: Global) -> Result<Vec<u8>, AllocError> {
         match self {
             Printer::Text(_) => Ok(Vec::new(alloc)),

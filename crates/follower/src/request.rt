@@ -39,7 +39,8 @@ pub(crate) struct Request<'a> {
     pub(crate) more: &'a [u8],
 }
 
-/// The body of the one at the front, and how many bytes the whole takes; None while it isn't there whole.
+/// The body of the one at the front, and how many bytes the whole takes; None while it isn't there whole. Faults as of
+/// `frames::body_alone`, where the front is none or a longer one.
 pub(crate) fn framed_request(bytes: &[u8]) -> Result<Option<(&[u8], usize)>, FrameFault>
     ensures { lent result ≡ framed_request bytes.now }
 {

@@ -50,7 +50,8 @@ impl ResumePoint {
         }
     }
 
-    /// Takes the next line of this form, with its end if it has one.
+    /// Takes the next line of this form, with its end if it has one. `AllocError` where memory to read it is refused: then nothing
+    /// changes.
     pub fn take(&mut self, alloc: Global, form: Form, text: &[u8]) -> Result<(), AllocError>
         ensures ok { OnOk result
             ((line : ToldLine) × IsLineOf form text.now line × (self.new ≡ with_line self.old line)) }

@@ -68,8 +68,9 @@ impl Subscription {
 /// more is read, and where the server asks. Where a read of the socket gives up, the server is asked for a keepalive; where the
 /// next one does too, it is silent. After all of them stands the last line of the form, if it has one.
 ///
-/// Where the fault is a passing one (`FollowFault::is_passing`), the subscription goes on over another connection. Once all is
-/// printed, a connection that is lost is no fault.
+/// Faults as of `follow`, and `OtherSystem` (K7) where the server is another system than before. Where the fault is a passing one
+/// (`FollowFault::is_passing`), the subscription goes on over another connection. Once all is printed, a connection that is lost is
+/// no fault.
 pub fn resume<R: Wait + Clock + RandomSource, S: Peer, W: Output>(
     rt: &R,
     alloc: Global,

@@ -18,7 +18,7 @@ pub(crate) const PASSWORD: u8 = b'p';
 /// The most bytes of a body that are sent; a server reads no longer ones of a client that it doesn't know.
 const MOST_BODY_BYTES: usize = 65_535;
 
-/// A body as a frame.
+/// A body as a frame. `AllocError` where memory is refused; so is a longer body than is sent, of which no caller makes one.
 #[tactic(auto, using(pqformat::proofs::Putting::in_place))]
 pub(crate) fn put_response(out: &mut BytesMut, body: &[u8]) -> Result<(), AllocError>
     ensures { Puts result out.old.items out.new.items (sasl_response body.now) }
@@ -32,6 +32,7 @@ pub(crate) fn put_response(out: &mut BytesMut, body: &[u8]) -> Result<(), AllocE
 }
 
 /// The body of a SASLInitialResponse that chooses this mechanism, whose name has no zero byte, with this first message.
+/// `AllocError` as of `put_response`.
 #[tactic(auto, using(pqformat::proofs::Putting::in_place))]
 pub(crate) fn put_initial(
     out: &mut BytesMut,

@@ -21,7 +21,7 @@ impl SendTimes {
         }
     }
 
-    /// What has this position was sent then.
+    /// What has this position was sent then. `AllocError` where memory to keep it is refused.
     pub(crate) fn note(&mut self, position: u64, clock: i64) -> Result<(), AllocError> {
         self.times.push_back((position, clock))?;
         Ok(())
@@ -39,7 +39,7 @@ impl SendTimes {
     }
 }
 
-/// Adds a line of JSON with one more member, which says when it was sent.
+/// Adds a line of JSON with one more member, which says when it was sent. `AllocError` where memory is refused.
 pub(crate) fn push_sent(
     alloc: Global,
     line: &[u8],

@@ -9,7 +9,8 @@ use bytes::BytesMut;
 use frames::{PROTOCOL_VERSION, put_byte, put_bytes, put_int32, put_string};
 use std::alloc::{AllocError, Global};
 
-/// The most bytes of a user's name that are sent. PostgreSQL cuts longer ones than 63, and reads no startup of more than 10,000.
+/// The most bytes of a user's name that are sent. PostgreSQL cuts longer ones than 63 (PostgreSQL 15, 4.1.1), and reads no startup
+/// of more than 10,000.
 const MOST_NAME_BYTES: usize = 9_000;
 
 /// The most bytes of all that a startup says.
@@ -20,7 +21,8 @@ pub(crate) fn is_name(user: &str) -> bool {
     user.len() <= MOST_NAME_BYTES && !user.is_empty() && !user.contains('\0')
 }
 
-/// The startup of a user's session for logical replication.
+/// The startup of a user's session for logical replication (PostgreSQL 15, 55.4). `AllocError` where memory is refused; so is a
+/// longer startup than is sent, which no name makes (`is_name`).
 pub(crate) fn put_startup(alloc: Global, out: &mut BytesMut, user: &str) -> Result<(), AllocError>
     ensures { OnOk result (out.new.items ≡ out.old.items ++ session_startup user.now) }
 {

@@ -52,7 +52,7 @@ impl StreamReceiver {
         start
     }
 
-    /// Takes a frame of the stream.
+    /// Takes a frame of the stream. Faults as of `Applier::take`, K1 to K5 and K8.
     #[tactic(auto, using(crate::proofs::Gaining::gains_taken, crate::proofs::Printed::follows_printed))]
     pub(crate) fn take(&mut self, frame: &[u8]) -> Result<(), ClientFault>
         ensures left { self.new.left ≡ self.old.left }

@@ -10,7 +10,8 @@ use pgoutput::{Begin, Commit, Logical, PgoutputError, read_logical};
 use std::alloc::Global;
 use std::io::Write;
 
-/// What a frame carries that the applier took so. No frame but CopyData carries anything.
+/// What a frame carries that the applier took so. No frame but CopyData carries anything: `Server` (K4) of an ErrorResponse,
+/// `Ended` (K6) of a CopyDone, `Client` (K1) of any other; and the applier's fault.
 pub(crate) fn carried(
     frame: Back,
     taken: Result<(), ClientFault>,
@@ -32,6 +33,7 @@ pub(crate) fn carried(
     }
 }
 
+/// The body in CopyData. `Client` (K1) where it is none.
 pub(crate) fn body_in(data: &CopyData) -> Result<ServerBody<'_>, FollowFault> {
     match read_server(data.bytes.as_slice()) {
         Ok(body) => Ok(body),
@@ -39,6 +41,7 @@ pub(crate) fn body_in(data: &CopyData) -> Result<ServerBody<'_>, FollowFault> {
     }
 }
 
+/// The message that a body carries. `Client` where it is none (K1), or memory for it is refused (K5).
 pub(crate) fn message_in(alloc: Global, payload: &[u8]) -> Result<Logical, FollowFault> {
     match read_logical(alloc, payload) {
         Ok(message) => Ok(message),
@@ -68,7 +71,7 @@ pub(crate) fn commit_of(transaction: &Applied) -> Commit
     }
 }
 
-/// Prints lines, and has them flushed.
+/// Prints lines, and has them flushed. `Output` (K6) where that fails.
 pub(crate) fn print_lines<W: Write>(lines: &[u8], output: &mut W) -> Result<(), FollowFault> {
     output.write_all(lines).map_err(FollowFault::Output)?;
     output.flush().map_err(FollowFault::Output)

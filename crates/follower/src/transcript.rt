@@ -33,7 +33,7 @@ impl Transcript {
         }
     }
 
-    /// Keeps what a Relation tells. Any other message tells of no table.
+    /// Keeps what a Relation tells. Any other message tells of no table. `AllocError` where memory for it is refused.
     pub(crate) fn tell(&mut self, message: &Logical) -> Result<(), AllocError> {
         let Logical::Relation(relation) = message else {
             return Ok(());
@@ -57,7 +57,7 @@ impl Transcript {
         }
     }
 
-    /// Adds the lines of a transaction, or the one line of a note.
+    /// Adds the lines of a transaction, or the one line of a note. `AllocError` where memory for them is refused.
     pub(crate) fn add(
         &mut self,
         transaction: &Applied,

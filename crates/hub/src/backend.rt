@@ -6,8 +6,8 @@ use crate::starting::HubStart;
 use connections::{ConnectionMailbox, RefusedCommand, ServerObserver};
 use pqformat::{Items, Text};
 use replcmd::StreamOptions;
-use server::{Backend, BackendFault, Refusal, TableName};
-use server_state::{ServerState, known_names, tables_of};
+use server::{Backend, BackendFault, Refusal, TableColumns, TableName};
+use server_state::{ServerState, columns_of, known_names, tables_of};
 use shared_log::LogName;
 use slots::SlotName;
 use std::net::TcpStream;
@@ -109,6 +109,15 @@ impl<'h, L: LogName + SlotName, R: Wait + Clock, G: ServerObserver> Backend
         )
     }
 
+    fn columns(&mut self, names: &Items<Text>) -> Result<Items<TableColumns>, BackendFault> {
+        self.judge(names.as_slice())?;
+        columns_of(
+            self.server_state.alloc,
+            &self.server_state.publications,
+            names.as_slice(),
+        )
+    }
+
     fn drop_when_free(&mut self, slot: &str) -> Result<(), BackendFault> {
         let dropped = self
             .server_state
@@ -171,7 +180,8 @@ pub(crate) fn name_of(user: &Option<Text>) -> Option<&str> {
     }
 }
 
-/// Whether it is a slot that a subscriber of PostgreSQL has for the initial copy of a table: pg_SUBSCRIPTION_sync_TABLE_SYSTEM.
+/// Whether it is a slot that a subscriber of PostgreSQL has for the initial copy of a table: pg_SUBSCRIPTION_sync_TABLE_SYSTEM
+/// (PostgreSQL 15, 31.2.1).
 fn is_of_copy(slot: &str) -> bool {
     slot.starts_with("pg_") && slot.contains("_sync_")
 }

@@ -160,7 +160,8 @@ pub(crate) struct StreamGrant<L: LogName + SlotName> {
 impl<L: LogName + SlotName> StreamGrant<L> {
     /// Claims the slot at this place for what these names select, and begins at the position, or at a later one that the slot
     /// has confirmed. Its reader goes to where it begins to read for that, in all of the log that it sees. What is refused gives
-    /// the seat back, and the slot is as free as it was.
+    /// the seat back, and the slot is as free as it was: `Slot` where it was dropped meanwhile (L1) or is held (L2), `NoEntry`
+    /// where the log lets no reader in, `Removed` where its records were given back, or `Memory`.
     pub fn claim(
         slots: &SlotTable<L>,
         reader_seat: ReaderSeat<L>,

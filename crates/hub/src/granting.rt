@@ -18,8 +18,9 @@ use slots::SlotName;
 use std::sync::Wait;
 use walsender::begin;
 
-/// Begins a stream, or answers why not: first what its user may not, then the first of the refusals in the order of
-/// `walsender::begin`; after them, that its slot was given up, or that it would start ahead of that.
+/// Begins a stream, or answers why not: first what its user may not (`NotOwner`, A3, or `NotGranted`, A4), then the first of the
+/// refusals in the order of `walsender::begin`; after them, that its slot was given up (`SlotLost`, L8), or that it would start
+/// ahead of that (`StartAhead`, L7). Or `Memory`.
 pub(crate) fn begin_stream<L: LogName + SlotName, R: Wait>(
     start: &mut HubStart<'_, L, R>,
 ) -> Result<NewStream<L>, BackendFault> {

@@ -23,7 +23,7 @@ pub struct Hub<L: LogName + SlotName> {
 }
 
 impl<L: LogName + SlotName> Hub<L> {
-    /// A hub with an empty log and no slots. Where memory is refused, nothing is left of it.
+    /// A hub with an empty log and no slots. `Memory` where memory is refused: then nothing is left of it.
     pub fn open<R: Wait>(rt: &R, opened: HubBuilder) -> Result<Self, HubFault>
         requires log { opened.log.history.seen.book ≡ L.book }
         requires slots { opened.slots.first.table_id ≡ L.table }
@@ -78,7 +78,8 @@ impl<L: LogName + SlotName> Hub<L> {
         self.server_state.tell_end(rt, end)
     }
 
-    /// Begins a transaction, once no other is in progress by this way.
+    /// Begins a transaction, once no other is in progress by this way. Refused in this order: `TooManyLive` (S10), `LogFull` (S7),
+    /// `Memory` (S11).
     pub fn transaction<'h, R: Wait>(
         &'h self,
         rt: &'h R,
@@ -88,8 +89,9 @@ impl<L: LogName + SlotName> Hub<L> {
         self.server_state.transaction(rt)
     }
 
-    /// Writes a message outside of all transactions, and answers the position where its record starts. S13, S6, S7, S11 in this
-    /// order, and then nobody hears of it. Streams that ask for messages send it at once, whatever transactions do.
+    /// Writes a message outside of all transactions, and answers the position where its record starts. Refused in this order, and
+    /// then nobody hears of it: `BadPrefix` (S13), `TooLarge` (S6) where its content is, `LogFull` (S7), `Memory` (S11). Streams
+    /// that ask for messages send it at once, whatever transactions do (PostgreSQL 15, 9.27.6).
     ///
     /// It waits until no `Transaction` is in progress, so a thread that has one ends it first.
     pub fn note<R: Wait + Clock>(
@@ -121,7 +123,8 @@ impl<L: LogName + SlotName> Hub<L> {
         self.server_state.end_awaiting(rt);
     }
 
-    /// What is served now. The parts are looked at one after the other, so connections may have gone on in between.
+    /// What is served now. The parts are looked at one after the other, so connections may have gone on in between. `AllocError`
+    /// where memory for it is refused.
     pub fn status<R: Wait + Clock>(&self, rt: &R) -> Result<HubStatus, AllocError> {
         self.server_state.status(rt)
     }
@@ -129,7 +132,7 @@ impl<L: LogName + SlotName> Hub<L> {
     // ---- how streams are steered on purpose, as tests of their clients need it
 
     /// Waits until the slot of this name is confirmed at this position or further, for so long at most, and answers whether it is.
-    /// L1 where there is none, or it is dropped, or the server ends meanwhile.
+    /// `Missing` (L1) where there is none, or it is dropped, or the server ends meanwhile.
     pub fn await_confirmed<R: Wait + Clock>(
         &self,
         rt: &R,
@@ -141,7 +144,7 @@ impl<L: LogName + SlotName> Hub<L> {
             .await_confirmed(rt, slot, position, patience)
     }
 
-    /// The same until a stream of the slot runs.
+    /// The same until a stream of the slot runs; `Missing` (L1) as there.
     pub fn await_stream<R: Wait + Clock>(
         &self,
         rt: &R,
@@ -152,23 +155,25 @@ impl<L: LogName + SlotName> Hub<L> {
     }
 
     /// Nothing of the slot's stream is written any more, nor of those that come, until it is let go; statuses are read all the same.
-    /// L1.
+    /// `Missing` (L1) where there is no such slot.
     pub fn hold_stream<R: Wait>(&self, rt: &R, slot: &str) -> Result<(), SteerFault> {
         self.server_state.hold_stream(rt, slot)
     }
 
-    /// The slot's stream goes on. L1.
+    /// The slot's stream goes on. `Missing` (L1) where there is no such slot.
     pub fn resume_stream<R: Wait>(&self, rt: &R, slot: &str) -> Result<(), SteerFault> {
         self.server_state.resume_stream(rt, slot)
     }
 
-    /// A keepalive asks the client of the slot's stream for an answer: at once, or as its next stream begins. L1.
+    /// A keepalive asks the client of the slot's stream for an answer: at once, or as its next stream begins. `Missing` (L1) where
+    /// there is no such slot.
     pub fn ask_stream<R: Wait>(&self, rt: &R, slot: &str) -> Result<(), SteerFault> {
         self.server_state.ask_stream(rt, slot)
     }
 
     /// Cuts the connection of the slot's stream, or of its next one, after so many more bytes: in the middle of a frame, where they
-    /// end in one. After none it is cut at once, between two frames. The stream after that isn't cut. L1.
+    /// end in one. After none it is cut at once, between two frames. The stream after that isn't cut. `Missing` (L1) where there is
+    /// no such slot.
     pub fn cut_stream<R: Wait>(&self, rt: &R, slot: &str, bytes: u64) -> Result<(), SteerFault> {
         self.server_state.cut_stream(rt, slot, bytes)
     }

@@ -18,7 +18,7 @@ pub(crate) struct NewStream<L: LogName + SlotName> {
 }
 
 impl<L: LogName + SlotName> NewStream<L> {
-    /// The stream of a grant. Where memory is refused it comes back.
+    /// The stream of a grant. Where memory is refused it comes back as the error.
     pub fn open(alloc: Global, grant: StreamGrant<L>) -> Result<Self, Stream<L>>
         ensures chunks { IfOk result
             (λ s. HasChunks s.stream.value.walsender.sender (length grant.arena)) }

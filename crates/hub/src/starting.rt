@@ -28,7 +28,8 @@ pub(crate) struct HubStart<'h, L: LogName + SlotName, R: Wait> {
 }
 
 impl<'h, L: LogName + SlotName, R: Wait> HubStart<'h, L, R> {
-    /// Why its user may not start this, if it may not: the slot is another one's, or a publication isn't granted.
+    /// Why its user may not start this, if it may not: `NotOwner` (A3) where the slot is another one's, `NotGranted` (A4) where a
+    /// publication isn't granted.
     pub fn forbidden(&self) -> Option<BackendFault> {
         let server_state = self.server_state;
         if !server_state.is_open_to(self.rt, self.slot, name_of(self.user)) {

@@ -19,7 +19,8 @@ use std::sync::Wait;
 use walsender::{SendFault, TurnFault};
 
 /// Writes a stream, and after it what is said at its end. Where its client did not ask for that, the connection is over, and
-/// what the client flushed last is confirmed too: all that it sent has been read by then.
+/// what the client flushed last is confirmed too: all that it sent has been read by then. `Client` where the client is gone or
+/// can't be written to, `FullArena`, `NoEntry`, `Removed` and `Memory` of a turn's fault (`end_of`), which the client is told.
 pub(crate) fn write_stream<L: LogName + SlotName, R: Wait, D: WorkBackend<L>, W: Write>(
     rt: &R,
     backend: &mut D,
@@ -114,7 +115,7 @@ fn run<L: LogName + SlotName, R: Wait, D: WorkBackend<L>, W: Write>(
     Ok(work)
 }
 
-/// Writes the words of what was taken. The connection may be over after them.
+/// Writes the words of what was taken. `Client` where the connection is over after them, or can't be written to.
 pub(crate) fn say<W: Write>(work: &Work, to: &mut W) -> Result<(), ConnectionEnd>
     ensures said { OnOk result
         (Appends (W.contents to.old) (W.contents to.new) work.now.said.items) }

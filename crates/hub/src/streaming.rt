@@ -120,7 +120,8 @@ impl<L: LogName + SlotName> Stream<L> {
     }
 
     /// Does what its inbox asks: confirms what was flushed, holds a keepalive for each status that asked and one that asks a
-    /// silent client, reads on, and writes all that is held. Where the connection is over, it only confirms.
+    /// silent client, reads on, and writes all that is held. Where the connection is over, it only confirms. Faults as of
+    /// `Walsender::turn`, U1 to U5.
     pub fn go_on<W: Write>(
         &mut self,
         slots: &SlotTable<L>,
@@ -271,7 +272,7 @@ impl<L: LogName + SlotName> Stream<L> {
         Ok(())
     }
 
-    /// Writes what is held of what was read.
+    /// Writes what is held of what was read. The writer's error; the rest is held then.
     pub fn write_rest<W: Write>(&mut self, to: &mut W) -> io::Result<()>
         ensures ok { OnOk result (self.new.walsender.sender.held ≡ []) }
         ensures serves { (given : List ℕ) × Gives given self.old.walsender self.new.walsender
@@ -283,6 +284,7 @@ impl<L: LogName + SlotName> Stream<L> {
     }
 
     /// How many chunks the changes take that its slot's next stream reads of the log, where it is over. Its reader is left anywhere.
+    /// None as of `ChunksNeeded::of`.
     pub fn chunks_needed(&mut self) -> Option<u32> {
         let start = self.start.max(self.confirmed);
         let needed = ChunksNeeded::of(self.alloc, &mut self.walsender.reader, start)?;

@@ -21,7 +21,7 @@ pub(crate) struct Asker {
 }
 
 impl Asker {
-    /// Of whom nothing has come yet.
+    /// Of whom nothing has come yet. The system's error where no random bytes are to be had.
     pub fn new<R: RandomSource>(
         rt: &R,
         alloc: Global,

@@ -62,7 +62,7 @@ const WORDS: [Word<'static>; 20] = [
     Word {
         name: "answer-postgresql",
         form: WordForm::Flag,
-        help: "Answer what CREATE SUBSCRIPTION and pg_recvlogical ask beside the commands of replication, and call the server 13.0 for them",
+        help: "Answer what CREATE SUBSCRIPTION and pg_recvlogical ask beside the commands of replication, and read commands as they write them",
     },
     Word {
         name: "allow-start-ahead",
@@ -118,7 +118,7 @@ const PUBD: CommandLine<'static> = CommandLine {
     words: &WORDS,
 };
 
-/// All words, or the text for a user who asks for help or gives other words.
+/// All words. `Words`, with the text to tell, where a user asks for help or gives other words, or where memory is refused.
 pub fn words_of<'a>(alloc: Global, given: &'a [String]) -> Result<Words<'a>, CommandFault> {
     match PUBD.read(alloc, given) {
         Ok(matches) => Ok(words_in(alloc, &matches).map_err(WordsFault::Memory)?),

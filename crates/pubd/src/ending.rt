@@ -65,7 +65,7 @@ pub struct ListenerHandles {
 }
 
 impl ListenerHandles {
-    /// The listeners at which these threads wait.
+    /// The listeners at which these threads wait. The system's error where it gives no second handle of one, or `OutOfMemory`.
     pub fn of(
         host: &HostRuntime,
         connections: &TcpListener,

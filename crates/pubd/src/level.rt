@@ -1,6 +1,6 @@
 //! How much a server tells beside its clients.
 
-/// How much is told, by the names of PostgreSQL's `log_min_messages`.
+/// How much is told, by the names of PostgreSQL's `log_min_messages` (PostgreSQL 15, 20.8.2).
 #[derive(Clone, Copy, PartialEq, Eq)]
 pub enum Level {
     /// How each connection has ended, and all words of what was refused.
@@ -12,7 +12,7 @@ pub enum Level {
 }
 
 impl Level {
-    /// The level of this name.
+    /// The level of this name. None: there is none.
     pub fn of(text: &str) -> Option<Self> {
         match text {
             "info" => Some(Level::Info),

@@ -27,7 +27,8 @@ impl LogWatch {
         }
     }
 
-    /// At a commit after which so many records are kept.
+    /// At a commit after which so many records are kept. None: they aren't nine tenths of the log, or that was told, and since then
+    /// they have never been less than half.
     pub fn look(&self, records: usize) -> Option<NearlyFull> {
         if records < self.places / 2 {
             self.was_nearly_full.store(false, Ordering::SeqCst);

@@ -9,6 +9,7 @@ use std::random::RandomSource;
 const RANDOM: &str = "random";
 
 /// The text of a configuration, or a number that is chosen anew, of 63 bits, so that it fits where clients keep one with a sign.
+/// The system's error where no random bytes are to be had, or `OutOfMemory`.
 pub fn system_name<R: RandomSource>(source: &R, alloc: Global, text: Text) -> io::Result<Text> {
     match text.as_str() {
         RANDOM => Ok(Text::new(number_of(alloc, drawn(source)?)?)),

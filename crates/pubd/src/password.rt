@@ -1,7 +1,6 @@
 //! `--password-of NAME`: what a server keeps of a password.
 
-use saslprep::prepared;
-use scram::{SALT_BYTES, line_of_user};
+use scram::{SALT_BYTES, line_of_user, prepared};
 use std::alloc::{AllocError, Global};
 use std::io;
 use std::io::Stdin;
@@ -32,7 +31,9 @@ impl PasswordFault {
     }
 }
 
-/// Prints the line of this user, whose password is the first line of the standard input.
+/// Prints the line of this user, whose password is the first line of the standard input. Refused in this order: `Name` where no
+/// line can be of that name, `Input` where nothing can be read, `Empty` where the password is, `Salt` where no random bytes are to
+/// be had, `Output`. Or `Memory`.
 pub fn tell_password(rt: &HostRuntime, name: &str) -> Result<(), PasswordFault> {
     if !is_name(name) {
         return Err(PasswordFault::Name);

@@ -1,4 +1,4 @@
-//! Sizes of memory as PostgreSQL's settings write them.
+//! Sizes of memory as PostgreSQL's settings write them (PostgreSQL 15, 20.1.1).
 
 use command_line::count_of;
 
@@ -13,7 +13,7 @@ const MOST: u64 = 2_147_483_647;
 /// The units, and how many kilobytes each has.
 const UNITS: [(&str, u64); 4] = [("kB", 1), ("MB", 1 << 10), ("GB", 1 << 20), ("TB", 1 << 30)];
 
-/// How many chunks hold a size like `64MB`; a number alone is kilobytes.
+/// How many chunks hold a size like `64MB`; a number alone is kilobytes. None: it is no size, or none that the setting may have.
 pub fn chunks_of(text: &str) -> Option<u32> {
     let kilobytes = kilobytes_of(text)?;
     if !(FEWEST..=MOST).contains(&kilobytes) {

@@ -32,7 +32,8 @@ const LISTENER: Token = Token(0);
 
 const ASKER: Token = Token(1);
 
-/// Tells whoever asks what runs, until the page is over.
+/// Tells whoever asks what runs, until the page is over. The system's error where sockets can't be waited for, the clock can't be
+/// read or no random bytes are to be had, or `OutOfMemory`.
 pub fn serve_status<L, R>(
     rt: &R,
     hub: &Hub<L>,

@@ -29,7 +29,7 @@ const SERVER_FAMILIES: [(&str, &str, &str); 5] = [
     ),
 ];
 
-/// A line for each value, and two before each family.
+/// A line for each value, and two before each family. The writer's error.
 pub fn write_status<W: Write>(status: &HubStatus, to: &mut W) -> io::Result<()> {
     for (name, kind, help) in &SERVER_FAMILIES {
         family(to, name, kind, help)?;

@@ -64,7 +64,7 @@ impl Talk {
         });
     }
 
-    /// A connection is served no more. It answers its address.
+    /// A connection is served no more. It answers its address, where that is known.
     pub fn end(&mut self, connection: u32) -> Option<IpAddr> {
         let address = self.address_of(connection);
         self.clients
@@ -72,7 +72,7 @@ impl Talk {
         address
     }
 
-    /// The address of a connection that is served.
+    /// The address of a connection that is served. None: there was no memory to keep it.
     pub fn address_of(&self, connection: u32) -> Option<IpAddr> {
         for client in &self.clients {
             if client.connection == connection {

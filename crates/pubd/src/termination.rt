@@ -40,6 +40,7 @@ enum Stage {
 }
 
 impl Termination {
+    /// Nobody was told yet. `AllocError` where memory for what threads share is refused.
     pub fn new(alloc: Global) -> Result<Arc<Self, Global>, AllocError> {
         let awaited = Termination {
             stage: Mutex::new(Stage::Awaited),
@@ -87,7 +88,7 @@ pub fn watch_signals<R: Wait + Clock>(rt: &R, signals: &File, termination: &Term
     }
 }
 
-/// Whether SIGTERM is blocked.
+/// Whether SIGTERM is blocked. The system's error where the file can't be read.
 pub fn blocks_signal(signals: &File) -> io::Result<bool> {
     has_signal(signals, BLOCKED)
 }

@@ -1,4 +1,4 @@
-//! Times as PostgreSQL's settings write them.
+//! Times as PostgreSQL's settings write them (PostgreSQL 15, 20.1.1).
 
 use command_line::count_of;
 use std::time::Duration;
@@ -15,7 +15,7 @@ const UNITS: [(&str, u64); 5] = [
     ("d", 86_400_000),
 ];
 
-/// The time of a text like `60s` or `1min`; a number alone is milliseconds.
+/// The time of a text like `60s` or `1min`; a number alone is milliseconds. None: it is no time, or longer than a setting's may be.
 pub fn timeout_of(text: &str) -> Option<Duration> {
     for (unit, milliseconds) in &UNITS {
         if let Some(number) = text.strip_suffix(*unit) {

@@ -69,7 +69,7 @@ pub struct UserFile {
 }
 
 impl UserFile {
-    /// The file at this path, where one is told.
+    /// The file at this path, where one is told. `AllocError` where memory for its path is refused.
     pub fn asked(host: &HostRuntime, path: Option<&str>) -> Result<Option<Self>, AllocError> {
         let Some(path) = path else {
             return Ok(None);
@@ -80,7 +80,8 @@ impl UserFile {
         }))
     }
 
-    /// Those that it names now.
+    /// Those that it names now. `Read` where it can't be read or is no text, `Line` at the first line that is no user's, or
+    /// `Memory`.
     pub fn users(&self, alloc: Global) -> Result<Items<User>, UserFault> {
         users_at(&self.host, alloc, self.path.as_str())
     }
@@ -112,7 +113,8 @@ fn text_at<R: Files>(rt: &R, alloc: Global, path: &str) -> Result<String, UserFa
     }
 }
 
-/// Those that may connect, where passwords are asked.
+/// Those that may connect, where passwords are asked. `Secret` where no random bytes are to be had, then `Users` as of
+/// `UserFile::users`.
 pub fn asked_users(rt: &HostRuntime, path: Option<&str>) -> Result<Option<Users>, UserFileFault> {
     let Some(path) = path else {
         return Ok(None);

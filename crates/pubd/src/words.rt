@@ -71,7 +71,7 @@ pub struct Numbers {
 }
 
 impl<'a> Words<'a> {
-    /// The words that are numbers.
+    /// The words that are numbers. `Words` where the address is none, else `Number` at the first word that is no such number.
     pub fn numbers(&self) -> Result<Numbers, CommandFault> {
         let address = address_of(self.address)?;
         Ok(self.numbers_at(address)?)

@@ -7,7 +7,7 @@ ghost use Rattle.pubsim.specs.Simulation.{is_bad_schedule, is_writing};
 use crate::rendering::write_rendered;
 use configuration::Config;
 use schedule::{
-    BadEvent, LineFault, Schedule, WorldFault, write_refusals, write_slot, write_stream,
+    BadEvent, LineFault, Schedule, WorldFault, write_answers, write_slot, write_stream,
     write_subscriber,
 };
 use shared_log::{LogName, Opened};
@@ -60,8 +60,8 @@ impl SimFault {
     }
 }
 
-/// Reads the whole schedule, runs its events and writes the report: a line for each refused event, then one for each start
-/// of a sender, each slot, and each subscriber that got a byte. Where that fails, nothing was written, unless the writing itself failed.
+/// Reads the whole schedule, runs its events and writes the report: a line for each event that was refused or asked for the
+/// front of the log, then one for each start of a sender, each slot, and each subscriber that got a byte. Where that fails, nothing was written, unless the writing itself failed.
 pub fn simulate<R: Wait, I: Read, W: Write>(
     rt: &R,
     alloc: Global,
@@ -148,7 +148,7 @@ fn write_report<L: LogName + SlotName, W: Write>(
     form: Form,
     world: &World<L>,
 ) -> io::Result<()> {
-    write_refusals(output, schedule.lines(), world.answers())?;
+    write_answers(output, schedule.lines(), world.answers())?;
     for start in world.starts() {
         match form {
             Form::Digits => write_stream(alloc, output, start.connection(), start.produced())?,

@@ -1,23 +1,19 @@
--- The first word of a command, and the plugin and the endings of CREATE_REPLICATION_SLOT.
-use Rattle.std.proofs.Common.{◌≡◌, ℕ, Bool, true, false, cond, eqb, List, [], ◌∷◌, Option, Some, None, Ok, Err, refl, sym, ap, subst, ◌∙◌}
+-- The first word of a command, and the plugin of CREATE_REPLICATION_SLOT.
+use Rattle.std.proofs.Common.{◌≡◌, ℕ, Bool, true, false, cond, List, [], ◌∷◌, Option, Some, None, Ok, Err, refl, sym, ap, subst, ◌∙◌}
 use Rattle.std.specs.Prelude.{codes}
 use Rattle.std.specs.Option.{ok_or}
 use Rattle.std.specs.Str.{bytes_eq}
-use Rattle.std.proofs.lemmas.Bool.{eqb-true}
 use Rattle.replcmd.specs.declared.fault.CmdFault.TheVariants.{Syntax, Unsupported}
 use Rattle.replcmd.specs.declared.token.Token.{Token}
 use Rattle.replcmd.specs.declared.token.Token.TheVariants.{Word, Quoted, Value, Mark, Unclosed}
-use Rattle.replcmd.specs.declared.token.TheConstants.{OPEN, CLOSE, COMMA}
 use Rattle.replcmd.specs.declared.verb.Verb.{Verb}
 use Rattle.replcmd.specs.declared.verb.Verb.TheVariants as verb
 use Rattle.replcmd.specs.Words.{lower, is_keyword}
-use Rattle.replcmd.specs.Grammar.{Part, Keyword, Named, Quote, Sign, IsEnd, Follows, IsEnding, Bare, NoExport, NoSnapshot}
-use Rattle.replcmd.specs.Commands.{ending_at, ending_from, if_snapshot, other_option, plugin_at, slot_bracket_at, snapshot_at, snapshot_value_at}
-use Rattle.replcmd.specs.Reading.{◌>>=◌, name_at, value_at, past_mark, past_word, verb_of, verb_at}
-use Rattle.pqformat.proofs.Quoting.{if_true}
+use Rattle.replcmd.specs.Grammar.{Part, Keyword, Named, Follows}
+use Rattle.replcmd.specs.Commands.{plugin_at}
+use Rattle.replcmd.specs.Reading.{◌>>=◌, name_at, verb_of, verb_at}
 use Rattle.replcmd.proofs.Lists.{found, same_found, bind_ok}
-use Rattle.replcmd.proofs.Options.{sign_front}
-use Rattle.replcmd.proofs.Readers.{bytes_same, same_bytes, name_follows, name_reads, value_follows, passed, mark_is, mark_stays}
+use Rattle.replcmd.proofs.Readers.{bytes_same, name_follows, name_reads}
 
 -- ---- the first word
 
@@ -79,7 +75,7 @@ verb_reads (Value u ∷ tokens) v parts f = absurd f.0
 verb_reads (Mark b ∷ tokens) v parts f = absurd f.0
 verb_reads (Unclosed ∷ tokens) v parts f = absurd f.0
 
--- ---- what ends CREATE_REPLICATION_SLOT
+-- ---- the plugin
 
 pub plugin_follows : (ts rest : List Token) (parts : List Part) → plugin_at ts ≡ Ok rest → Follows rest parts → Follows ts (Named (codes "pgoutput") ∷ parts)
 unfolding plugin_at
@@ -97,127 +93,3 @@ plugin_follows ts rest parts e f =
 pub plugin_reads : (ts : List Token) (parts : List Part) → Follows ts (Named (codes "pgoutput") ∷ parts) → (rest : List Token) × (plugin_at ts ≡ Ok rest) × Follows rest parts
 unfolding plugin_at
 plugin_reads ts parts f = let a = name_reads ts (codes "pgoutput") parts f in (a.0, rw a.1 refl, a.2)
-
-word_is : (k : List ℕ) (ts rest : List Token) (parts : List Part) → past_word k ts ≡ passed true rest → Follows rest parts → Follows ts (Keyword k ∷ parts)
-word_is k [] rest parts e f = absurd (let never = ap (λ (x : Bool × List Token). x.0) e in cc)
-word_is k (Word w ∷ tokens) rest parts e f = by_test (is_keyword k w) refl e
-  where
-    by_test : (t : Bool) → is_keyword k w ≡ t → cond t (passed true tokens) (passed false (Word w ∷ tokens)) ≡ passed true rest → (is_keyword k w ≡ true) × Follows tokens parts
-    by_test true is e = (is, subst (λ (l : List Token). Follows l parts) (sym (ap (λ (x : Bool × List Token). x.1) e)) f)
-    by_test false is e = absurd (let never = ap (λ (x : Bool × List Token). x.0) e in cc)
-word_is k (Quoted n ∷ tokens) rest parts e f = absurd (let never = ap (λ (x : Bool × List Token). x.0) e in cc)
-word_is k (Value v ∷ tokens) rest parts e f = absurd (let never = ap (λ (x : Bool × List Token). x.0) e in cc)
-word_is k (Mark b ∷ tokens) rest parts e f = absurd (let never = ap (λ (x : Bool × List Token). x.0) e in cc)
-word_is k (Unclosed ∷ tokens) rest parts e f = absurd (let never = ap (λ (x : Bool × List Token). x.0) e in cc)
-
-word_stays : (k : List ℕ) (ts rest : List Token) → past_word k ts ≡ passed false rest → ts ≡ rest
-word_stays k [] rest e = ap (λ (x : Bool × List Token). x.1) e
-word_stays k (Word w ∷ tokens) rest e = by_test (is_keyword k w) e
-  where
-    by_test : (t : Bool) → cond t (passed true tokens) (passed false (Word w ∷ tokens)) ≡ passed false rest → Word w ∷ tokens ≡ rest
-    by_test true e = absurd (let never = ap (λ (x : Bool × List Token). x.0) e in cc)
-    by_test false e = ap (λ (x : Bool × List Token). x.1) e
-word_stays k (Quoted n ∷ tokens) rest e = ap (λ (x : Bool × List Token). x.1) e
-word_stays k (Value v ∷ tokens) rest e = ap (λ (x : Bool × List Token). x.1) e
-word_stays k (Mark b ∷ tokens) rest e = ap (λ (x : Bool × List Token). x.1) e
-word_stays k (Unclosed ∷ tokens) rest e = ap (λ (x : Bool × List Token). x.1) e
-
-word_front : (k : List ℕ) (ts : List Token) (parts : List Part) → Follows ts (Keyword k ∷ parts) → (rest : List Token) × (past_word k ts ≡ passed true rest) × (past_mark OPEN ts ≡ passed false ts) × Follows rest parts
-word_front k [] parts f = absurd f
-word_front k (Word w ∷ tokens) parts f = (tokens, if_true (is_keyword k w) (passed true tokens) (passed false (Word w ∷ tokens)) f.0, refl, f.1)
-word_front k (Quoted n ∷ tokens) parts f = absurd f.0
-word_front k (Value u ∷ tokens) parts f = absurd f.0
-word_front k (Mark b ∷ tokens) parts f = absurd f.0
-word_front k (Unclosed ∷ tokens) parts f = absurd f.0
-
-bracket_is : (ts rest : List Token) → slot_bracket_at ts ≡ Ok rest → ts ≡ Mark CLOSE ∷ rest
-bracket_is [] rest e = absurd cc
-bracket_is (Word w ∷ tokens) rest e = absurd cc
-bracket_is (Quoted n ∷ tokens) rest e = absurd cc
-bracket_is (Value v ∷ tokens) rest e = absurd cc
-bracket_is (Unclosed ∷ tokens) rest e = absurd cc
-bracket_is (Mark m ∷ tokens) rest e = by_test (eqb m COMMA) (eqb m CLOSE) (λ is. eqb-true m CLOSE is) e
-  where
-    by_test : (t u : Bool) → (u ≡ true → m ≡ CLOSE) → cond t (Err (other_option tokens)) (cond u (Ok tokens) (Err Syntax)) ≡ Ok rest → Mark m ∷ tokens ≡ Mark CLOSE ∷ rest
-    by_test true u same e = absurd cc
-    by_test false true same e = let rest_is : tokens ≡ rest = cc in ap (λ (x : ℕ). Mark x ∷ tokens) (same refl) ∙ ap (λ (l : List Token). Mark CLOSE ∷ l) rest_is
-    by_test false false same e = absurd cc
-
-snapshot_value_follows : (ts rest : List Token) → snapshot_value_at ts ≡ Ok rest → IsEnd rest → Follows ts (Quote (codes "nothing") ∷ Sign CLOSE ∷ [])
-snapshot_value_follows ts rest e end =
-    let a = bind_ok (value_at ts) (λ value. cond (bytes_eq value.0 (codes "nothing")) (slot_bracket_at value.1) (Err Unsupported)) rest e in
-    by_test a.0.0 a.0.1 (value_follows ts a.0.0 a.0.1 a.1) (bytes_eq a.0.0 (codes "nothing")) refl a.2
-  where
-    by_test : (v : List ℕ) (mid : List Token) → ts ≡ Value v ∷ mid → (t : Bool) → bytes_eq v (codes "nothing") ≡ t → cond t (slot_bracket_at mid) (Err Unsupported) ≡ Ok rest
-        → Follows ts (Quote (codes "nothing") ∷ Sign CLOSE ∷ [])
-    by_test v mid front true is e =
-        let close = bracket_is mid rest e in
-        let both : Follows (Value v ∷ (Mark CLOSE ∷ rest)) (Quote (codes "nothing") ∷ Sign CLOSE ∷ []) = (bytes_same v (codes "nothing") is, (refl, end)) in
-        subst (λ (l : List Token). Follows l (Quote (codes "nothing") ∷ Sign CLOSE ∷ [])) (sym (front ∙ ap (λ (l : List Token). Value v ∷ l) close)) both
-    by_test v mid front false is e = absurd cc
-
-pub ending_follows : (ts rest : List Token) → ending_at ts ≡ Ok rest → IsEnd rest → (ending : List Part) × IsEnding ending × Follows ts ending
-unfolding ending_at snapshot_at
-ending_follows ts rest e end = by_bracket (past_mark OPEN ts) refl e
-  where
-    by_word : (inner : List Token) → ts ≡ Mark OPEN ∷ inner → (x : Bool × List Token) → past_word (codes "SNAPSHOT") inner ≡ x → if_snapshot x ≡ Ok rest → (ending : List Part) × IsEnding ending × Follows ts ending
-    by_word inner front (true, behind) is e =
-        let value = snapshot_value_follows behind rest e end in
-        let word = word_is (codes "SNAPSHOT") inner behind (Quote (codes "nothing") ∷ Sign CLOSE ∷ []) is value in
-        let all : Follows (Mark OPEN ∷ inner) (Sign OPEN ∷ Keyword (codes "SNAPSHOT") ∷ Quote (codes "nothing") ∷ Sign CLOSE ∷ []) = (refl, word) in (
-          Sign OPEN ∷ Keyword (codes "SNAPSHOT") ∷ Quote (codes "nothing") ∷ Sign CLOSE ∷ [],
-          NoSnapshot,
-          subst (λ (l : List Token). Follows l (Sign OPEN ∷ Keyword (codes "SNAPSHOT") ∷ Quote (codes "nothing") ∷ Sign CLOSE ∷ [])) (sym front) all,
-        )
-    by_word inner front (false, behind) is e = absurd cc
-
-    by_export : (after : List Token) → ts ≡ after → (x : Bool × List Token) → past_word (codes "NOEXPORT_SNAPSHOT") after ≡ x → x.1 ≡ rest → (ending : List Part) × IsEnding ending × Follows ts ending
-    by_export after same (true, behind) is e =
-        let word = word_is (codes "NOEXPORT_SNAPSHOT") after behind [] is (subst IsEnd (sym e) end) in
-        (Keyword (codes "NOEXPORT_SNAPSHOT") ∷ [], NoExport, subst (λ (l : List Token). Follows l (Keyword (codes "NOEXPORT_SNAPSHOT") ∷ [])) (sym same) word)
-    by_export after same (false, behind) is e =
-        let stays = word_stays (codes "NOEXPORT_SNAPSHOT") after behind is in
-        ([], Bare, subst IsEnd (sym (same ∙ stays ∙ e)) end)
-
-    by_bracket : (x : Bool × List Token) → past_mark OPEN ts ≡ x → ending_from x ≡ Ok rest → (ending : List Part) × IsEnding ending × Follows ts ending
-    by_bracket (true, inner) is e = by_word inner (mark_is OPEN ts inner is) (past_word (codes "SNAPSHOT") inner) refl e
-    by_bracket (false, after) is e =
-        let same : (past_word (codes "NOEXPORT_SNAPSHOT") after).1 ≡ rest = cc in
-        by_export after (mark_stays OPEN ts after is) (past_word (codes "NOEXPORT_SNAPSHOT") after) refl same
-
--- nothing, or a semicolon
-bare_reads : (ts : List Token) → IsEnd ts → ending_at ts ≡ Ok ts
-unfolding ending_at
-bare_reads [] end = refl
-bare_reads (token ∷ other ∷ tokens) end = absurd end
-bare_reads (Word w ∷ []) end = absurd end
-bare_reads (Quoted n ∷ []) end = absurd end
-bare_reads (Value v ∷ []) end = absurd end
-bare_reads (Mark b ∷ []) end = subst (λ (x : ℕ). ending_from (past_mark OPEN (Mark x ∷ [])) ≡ Ok (Mark x ∷ [])) (sym end) refl
-bare_reads (Unclosed ∷ []) end = absurd end
-
-export_reads : (ts : List Token) → Follows ts (Keyword (codes "NOEXPORT_SNAPSHOT") ∷ []) → (rest : List Token) × (ending_at ts ≡ Ok rest) × IsEnd rest
-unfolding ending_at
-export_reads ts f =
-    let a = word_front (codes "NOEXPORT_SNAPSHOT") ts [] f in
-    (a.0, rw (a.2, a.1) refl, a.3)
-
-bracket_reads : (ts : List Token) → Follows ts (Quote (codes "nothing") ∷ Sign CLOSE ∷ []) → (rest : List Token) × (snapshot_value_at ts ≡ Ok rest) × IsEnd rest
-bracket_reads [] f = absurd f
-bracket_reads (Word w ∷ tokens) f = absurd f.0
-bracket_reads (Quoted n ∷ tokens) f = absurd f.0
-bracket_reads (Value v ∷ tokens) f =
-    let close = sign_front CLOSE tokens [] f.1 in
-    (close.0, rw (same_bytes v (codes "nothing") f.0) (ap slot_bracket_at close.1), close.2)
-bracket_reads (Mark b ∷ tokens) f = absurd f.0
-bracket_reads (Unclosed ∷ tokens) f = absurd f.0
-
-pub ending_reads : (ending : List Part) → IsEnding ending → (ts : List Token) → Follows ts ending → (rest : List Token) × (ending_at ts ≡ Ok rest) × IsEnd rest
-unfolding ending_at snapshot_at
-ending_reads [] Bare ts f = (ts, bare_reads ts f, f)
-ending_reads _ NoExport ts f = export_reads ts f
-ending_reads _ NoSnapshot ts f =
-    let front = sign_front OPEN ts (Keyword (codes "SNAPSHOT") ∷ Quote (codes "nothing") ∷ Sign CLOSE ∷ []) f in
-    let word = word_front (codes "SNAPSHOT") front.0 (Quote (codes "nothing") ∷ Sign CLOSE ∷ []) front.2 in
-    let value = bracket_reads word.0 word.3 in
-    (value.0, ap ending_at front.1 ∙ ap if_snapshot word.1 ∙ value.1, value.2)

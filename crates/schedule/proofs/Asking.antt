@@ -41,6 +41,8 @@ answered (answers.Session fault) refusal done p q ts new same called = (called.0
 answered (answers.Slot fault) refusal done p q ts new same called = absurd called
 answered (answers.Publication fault) refusal done p q ts new same called = absurd called
 answered answers.NoReader refusal done p q ts new same called = absurd called
+answered answers.Removed refusal done p q ts new same called = absurd called
+answered (answers.Front place) refusal done p q ts new same called = absurd called
 answered (answers.Sender fault) refusal done p q ts new same called = absurd called
 answered (answers.Subscriber fault) refusal done p q ts new same called = absurd called
 

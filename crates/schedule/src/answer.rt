@@ -14,6 +14,10 @@ pub enum Answer {
     Slot(SlotFault),
     /// L6: every reader of the log serves a sender already.
     NoReader,
+    /// L9: the log gave back what the start needs.
+    Removed,
+    /// So many records of the log were given back.
+    Front(usize),
     Publication(PubFault),
     Sender(SendFault),
     Subscriber(ClientFault),

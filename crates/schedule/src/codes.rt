@@ -13,10 +13,11 @@ impl Answer {
         ensures { option_map (λ c. c.now) result ≡ answer_code self.now }
     {
         match self {
-            Answer::Done => None,
+            Answer::Done | Answer::Front(_) => None,
             Answer::Session(fault) => Some(fault.code()),
             Answer::Slot(fault) => Some(fault.code()),
             Answer::NoReader => Some("L6"),
+            Answer::Removed => Some("L9"),
             Answer::Publication(fault) => Some(fault.code()),
             Answer::Sender(SendFault::ArenaFull) => Some("G1"),
             Answer::Sender(SendFault::Memory) => Some("G2"),

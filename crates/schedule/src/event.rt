@@ -15,6 +15,10 @@ pub enum Event {
     Connection(Text, ConnectionStep),
     /// `slot NAME`: a slot is created at the log's end.
     Slot(Text),
+    /// `forget`: the log gives back what no slot, no connection and no transaction needs.
+    Forget,
+    /// `front`: asks how much of the log was given back.
+    Front,
 }
 
 /// What a session does in a transaction T.

@@ -63,6 +63,7 @@ impl BadEvent {
             ),
             Event::Connection(name, _) => ("connection ", name.as_str(), " has no sender"),
             Event::Slot(name) => ("", name.as_str(), " is no name of a slot"),
+            Event::Forget | Event::Front => ("the log can't be asked", "", ""),
         }
     }
 }

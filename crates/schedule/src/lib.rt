@@ -1,7 +1,7 @@
 //! Schedules: texts of one event a line that drive a publisher, what is printed of their answers, and the sessions that their lines
 //! name.
 //!
-//! `Schedule::parse` reads a text, `Answer` is what an event answered, and `write_refusals`, `write_stream`, `write_slot` and
+//! `Schedule::parse` reads a text, `Answer` is what an event answered, and `write_answers`, `write_stream`, `write_slot` and
 //! `write_subscriber` print. `Sessions::line` does the line of a session: it begins, changes or ends a transaction, or sets and leaves
 //! its savepoints, by one call of the publisher. Crate `world` runs the other events.
 //!
@@ -30,7 +30,7 @@ pub use answer::Answer;
 pub use bad_line::{BadLine, Dialect, LineRefusal};
 pub use event::{ConnectionStep, Event, Literal, SessionStep};
 pub use fault::{BadEvent, WorldFault};
-pub use report::{write_refusals, write_slot, write_stream, write_subscriber};
+pub use report::{write_answers, write_slot, write_stream, write_subscriber};
 pub use schedule::{LineFault, Schedule};
 pub use sessions::Sessions;
 pub use start_options::StartOptions;

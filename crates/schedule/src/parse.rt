@@ -34,13 +34,17 @@ impl Event {
     }
 }
 
-/// The event whose line begins with this word. Each names a transaction or a connection next, but for a new slot's and a note's.
+/// The event whose line begins with this word. Each names a transaction or a connection next, but for a new slot's, a note's and those
+/// of the whole log.
 fn event_of(alloc: Global, word: &str, fields: &mut Fields<'_>) -> Result<Event, LineRefusal> {
     if word == "slot" {
         return Ok(Event::Slot(fields.slot(alloc)?));
     }
-    if word == "note" {
-        return note(alloc, fields);
+    match word {
+        "note" => return note(alloc, fields),
+        "forget" => return Ok(Event::Forget),
+        "front" => return Ok(Event::Front),
+        _ => {}
     }
     let name = fields.name(alloc)?;
     match session_step_of(alloc, word, fields)? {

@@ -1,4 +1,4 @@
-//! What is printed of a run: its refusals, what each start of a sender produced, and how far its subscribers are.
+//! What is printed of a run: its refusals and fronts, what each start of a sender produced, and how far its subscribers are.
 
 use crate::answer::Answer;
 use replcmd::write_position;
@@ -6,14 +6,18 @@ use std::alloc::Global;
 use std::io;
 use std::io::Write;
 
-/// For each refused event the number of its line and its code, as in `7 S1`. The lines and the answers are those of the same
-/// events, in order. It fails as the output does.
-pub fn write_refusals<W: Write>(
+/// For each refused event the number of its line and its code, as in `7 S1`; for each that asked for the front of the log how many of its
+/// records were given back, as in `7 front 12`. The lines and the answers are those of the same events, in order. It fails as the output
+/// does.
+pub fn write_answers<W: Write>(
     output: &mut W,
     lines: &[usize],
     answers: &[Answer],
 ) -> io::Result<()> {
     for (line, answer) in lines.iter().zip(answers) {
+        if let Answer::Front(count) = answer {
+            writeln!(output, "{line} front {count}")?;
+        }
         if let Some(code) = answer.code() {
             writeln!(output, "{line} {code}")?;
         }

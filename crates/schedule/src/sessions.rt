@@ -98,7 +98,9 @@ impl Sessions {
         match event {
             Event::Session(name, step) => self.step(rt, publisher, name, step),
             Event::Note(prefix, content) => Ok((note(rt, publisher, prefix, content), None)),
-            Event::Connection(_, _) | Event::Slot(_) => Err(WorldFault::BadEvent),
+            Event::Connection(_, _) | Event::Slot(_) | Event::Forget | Event::Front => {
+                Err(WorldFault::BadEvent)
+            }
         }
     }
 

@@ -14,3 +14,6 @@ pub mod Told
 pub mod Logins
 pub mod Challenges
 pub mod ClientExchanges
+pub mod CodeSets
+pub mod Refusing
+pub mod Preparing

@@ -63,7 +63,7 @@ impl ClientExchange {
         Ok(Items::new(text))
     }
 
-    /// The answer of the server's first message, by a password as SASLprep (RFC 4013) leaves it; ASCII it leaves as it is.
+    /// The answer of the server's first message, by a password as `prepared` leaves it; ASCII stays as it is.
     /// Refuses a message that wants an extension (`ServerFault::Extension`), is of another form (`Malformed`), repeats another
     /// nonce (`Nonce`), or has no salt in base64 (`Salt`) or no count of 1 to 1,000,000 rounds (`Rounds`). Or `Memory`.
     #[tactic(auto, using(crate::proofs::ServerFailing::fails))]

@@ -29,7 +29,7 @@ pub struct Verifier {
 }
 
 impl Verifier {
-    /// That of a password, as clients prepare it by SASLprep (RFC 4013), which leaves ASCII as it is; the salt is to be random.
+    /// That of a password, as clients prepare it (`prepared`; ASCII stays as it is); the salt is to be random.
     /// `AllocError` where memory is refused.
     #[tactic(auto, unfolding(crate::specs::Keys::salted_password))]
     pub fn of_password(

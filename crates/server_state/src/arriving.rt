@@ -26,6 +26,7 @@ pub enum Place {
 
 impl<L: LogName + SlotName> ServerState<L> {
     /// What becomes of the connection that came, if one came that has a place. The listener rests where it can't give one for now.
+    /// `Listener` where it gives no more.
     pub fn arrives<G: ServerObserver, R: Wait + Clock>(
         &self,
         rt: &R,

@@ -12,7 +12,7 @@ use std::sync::Wait;
 use txlog::{Publisher, SessionFault, Tx};
 
 /// Ends a transaction with what came of its work, by what it is spoilt if it is, and answers what its caller is told, and what streams
-/// are.
+/// are. The work's own error stays; else `Aborted` where the commit is refused, and `Unended` where memory is refused for an abort.
 pub(crate) fn ended<L: LogName, R: Wait, T, E>(
     rt: &R,
     publisher: &mut Publisher<L>,

@@ -18,13 +18,14 @@ use txlog::Opened;
 /// How many chunks the arena of a stream has, unless another number is set: a mebibyte.
 const CHUNKS: u32 = 64;
 
-/// For how many seconds the client of a stream may be silent, unless another time is set: PostgreSQL's default.
+/// For how many seconds the client of a stream may be silent, unless another time is set: PostgreSQL's default (PostgreSQL 15,
+/// 20.6.1).
 const WAL_SENDER_TIMEOUT: u64 = 60;
 
-/// For how many seconds a startup may take, unless another time is set: PostgreSQL's default.
+/// For how many seconds a startup may take, unless another time is set: PostgreSQL's default (PostgreSQL 15, 20.3).
 const AUTHENTICATION_TIMEOUT: u64 = 60;
 
-/// How many connections may be served at once, unless another number is set: PostgreSQL's default.
+/// How many connections may be served at once, unless another number is set: PostgreSQL's default (PostgreSQL 15, 20.3).
 const MAX_CONNECTIONS: u32 = 100;
 
 /// How many slots there may be at once, unless another number is set.
@@ -48,7 +49,7 @@ pub struct HubBuilder {
 
 impl HubBuilder {
     /// For these tables, these publications over them, the text by which the system names itself to clients, and a log of so
-    /// many records.
+    /// many records. `LongName` where that text is too long for an answer, then `Memory`.
     pub fn new(
         alloc: Global,
         catalog: Catalog,

@@ -27,7 +27,8 @@ impl<L: LogName + SlotName> ServerState<L> {
         end
     }
 
-    /// Makes a slot of this user, if any, at the log's end, and answers that position.
+    /// Makes a slot of this user, if any, at the log's end, and answers that position. `SlotExists` (L3) where the name is there,
+    /// `NoSlotPlace` (L4) where there are as many slots as may be, or `Memory`.
     // The publisher is locked until the slot's monitor says what is kept for it, so that nothing of that is given back meanwhile.
     pub fn create_slot<R: Wait>(
         &self,
@@ -61,7 +62,7 @@ impl<L: LogName + SlotName> ServerState<L> {
         Ok(end)
     }
 
-    /// Drops a slot, where this user may.
+    /// Drops a slot. Refused in this order: `NotOwner` (A3) where it is another user's, `SlotMissing` (L1), `SlotInUse` (L2).
     pub fn drop_slot<R: Wait>(
         &self,
         rt: &R,
@@ -78,7 +79,7 @@ impl<L: LogName + SlotName> ServerState<L> {
     }
 
     /// Drops a slot once no stream has it. Where the client that asks for that, by this socket, has gone before, or the server ends,
-    /// the slot is in use.
+    /// the slot is in use (`SlotInUse`, L2). Else refused as `drop_slot`.
     pub fn drop_when_free<R: Wait + Clock>(
         &self,
         rt: &R,
@@ -118,7 +119,7 @@ impl<L: LogName + SlotName> ServerState<L> {
         false
     }
 
-    /// What is known of the slot at a place, and how its stream is steered.
+    /// What is known of the slot at a place, and how its stream is steered. None: no place is told.
     pub fn monitor_at(&self, place: Option<usize>) -> Option<&SlotMonitor> {
         match place {
             Some(place) => self.monitors.get(place % LINES),
@@ -139,16 +140,19 @@ impl<L: LogName + SlotName> ServerState<L> {
         }
     }
 
+    /// The place of the slot of this name. None: there is none.
     pub fn place_of<R: Wait>(&self, rt: &R, slot: &str) -> Option<usize>
         ensures { IfSome result (λ place. place < END_OF_PLACES) }
     {
         self.names.lock(rt).place_of(slot)
     }
 
+    /// A reader with a seat for one more stream. None: as many streams run as may.
     pub fn take_reader_seat<R: Wait>(&self, rt: &R) -> Option<ReaderSeat<L>> {
         self.pool.lock(rt).take()
     }
 
+    /// A stream has ended that had these.
     pub fn give_back<R: Wait>(&self, rt: &R, reader_seat: ReaderSeat<L>) {
         let _ = self.pool.lock(rt).give_back(reader_seat);
     }

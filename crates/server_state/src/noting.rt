@@ -13,8 +13,9 @@ use std::time::Clock;
 use txlog::{Publisher, SessionFault};
 
 impl<L: LogName + SlotName> ServerState<L> {
-    /// Writes a message outside of all transactions, and answers the position where its record starts. S13, S6, S7, S11 in this
-    /// order, and then nobody hears of it. Streams that ask for messages send it at once, whatever transactions do.
+    /// Writes a message outside of all transactions, and answers the position where its record starts. Refused in this order, and
+    /// then nobody hears of it: `BadPrefix` (S13), `TooLarge` (S6) where its content is, `LogFull` (S7), `Memory` (S11). Streams
+    /// that ask for messages send it at once, whatever transactions do (PostgreSQL 15, 9.27.6).
     ///
     /// It waits until no `Transaction` is in progress, so a thread that has one ends it first.
     pub fn note<R: Wait + Clock>(

@@ -32,7 +32,7 @@ impl<L: SlotName> OwnedNames<L> {
         }
     }
 
-    /// The place of the slot of this name.
+    /// The place of the slot of this name. None: there is none.
     pub fn place_of(&self, name: &str) -> Option<usize>
         ensures named { result ≡ place_of self.now.names.directory name.now }
         ensures inside { IfSome result (λ place. place < END_OF_PLACES) }
@@ -48,7 +48,8 @@ impl<L: SlotName> OwnedNames<L> {
         self.owners.may_use(name, user)
     }
 
-    /// Makes a slot of a new name at this position, which is this user's, or anyone's. A slot that is there stays whose it is.
+    /// Makes a slot of a new name at this position, which is this user's, or anyone's. A slot that is there stays whose it is:
+    /// `SlotExists` (L3). `NoSlotPlace` (L4) where there are as many slots as may be. Or `Memory`.
     pub fn create(
         &mut self,
         slots: &SlotTable<L>,
@@ -82,7 +83,8 @@ impl<L: SlotName> OwnedNames<L> {
         Ok(())
     }
 
-    /// Drops the slot of this name, where this user may, and answers its place. What is refused changes nothing.
+    /// Drops the slot of this name, and answers its place. Refused in this order, and then nothing changes: `NotOwner` (A3) where
+    /// it is another user's, `SlotMissing` (L1), `SlotInUse` (L2).
     pub fn drop_slot(
         &mut self,
         slots: &SlotTable<L>,

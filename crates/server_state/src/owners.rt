@@ -36,7 +36,7 @@ impl Owners {
         }
     }
 
-    /// The slot of this name is this user's, or anyone's.
+    /// The slot of this name is this user's, or anyone's. `AllocError` where memory is refused: then it stays whose it is.
     pub fn set(&mut self, name: &str, owner: Option<Text>) -> Result<(), AllocError>
         ensures ok { OnOk result (ChangesOwner self.old self.new name.now owner) }
         ensures err { OnErr result (HaveSameOwners self.old self.new) }

@@ -34,7 +34,7 @@ pub(crate) struct Pool<L: LogName + SlotName> {
 }
 
 impl<L: LogName + SlotName> Pool<L> {
-    /// Each reader with a seat.
+    /// Each reader with a seat. `AllocError` where memory is refused.
     pub fn of(
         alloc: Global,
         readers: Vec<LogReader<L>>,
@@ -57,7 +57,7 @@ impl<L: LogName + SlotName> Pool<L> {
         self.reader_seats.pop()
     }
 
-    /// Takes a seat back. There is room for each that was taken.
+    /// Takes a seat back. There is room for each that was taken, so `AllocError` doesn't come of those.
     pub fn give_back(&mut self, reader_seat: ReaderSeat<L>) -> Result<(), AllocError>
         ensures ok { OnOk result (self.new.reader_seats.items ≡ self.old.reader_seats.items ++ reader_seat ∷ []) }
     {

@@ -7,6 +7,7 @@ use publication::PubFault;
 use server::BackendFault;
 use slots::SlotFault;
 
+/// Why a slot was refused: `SlotMissing` (L1), `SlotInUse` (L2), `SlotExists` (L3), `NoSlotPlace` (L4), or `Memory`, as it was.
 pub fn of_slot(fault: SlotFault) -> BackendFault
     ensures { result ≡ of_slot fault }
 {
@@ -19,7 +20,7 @@ pub fn of_slot(fault: SlotFault) -> BackendFault
     }
 }
 
-/// Why publications were not selected: an unknown one, lists that differ, or else memory.
+/// Why publications were not selected: `UnknownPublication` (P1), `ListConflict` (P2), or else `Memory`.
 pub fn of_publications(fault: PubFault) -> BackendFault
     ensures { result ≡ of_publications fault }
 {

@@ -66,7 +66,7 @@ pub struct ServerState<L: LogName + SlotName> {
 }
 
 impl<L: LogName + SlotName> ServerState<L> {
-    /// An empty log and no slots. Where memory is refused, nothing is left of it.
+    /// An empty log and no slots. `Memory` where memory is refused: then nothing is left of it.
     pub fn open<R: Wait>(rt: &R, opened: HubBuilder) -> Result<Self, HubFault>
         requires log { opened.log.history.seen.book ≡ L.book }
         requires slots { opened.slots.first.table_id ≡ L.table }
@@ -182,7 +182,7 @@ impl<L: LogName + SlotName> ServerState<L> {
         Service { number, dialect }
     }
 
-    /// For how long a read of a connection waits: half of the time for which the client of a stream may be silent.
+    /// For how long a read of a connection waits: half of the time for which the client of a stream may be silent. None: for ever.
     pub fn silence(&self) -> Option<Duration> {
         if self.settings.wal_sender_timeout.is_zero() {
             return None;
@@ -190,7 +190,7 @@ impl<L: LogName + SlotName> ServerState<L> {
         Some(self.settings.wal_sender_timeout / 2)
     }
 
-    /// For how long a write of a connection waits whose client takes nothing.
+    /// For how long a write of a connection waits whose client takes nothing. None: for ever.
     pub fn stalling(&self) -> Option<Duration> {
         if self.settings.wal_sender_timeout.is_zero() {
             return None;
@@ -198,7 +198,8 @@ impl<L: LogName + SlotName> ServerState<L> {
         Some(self.settings.wal_sender_timeout)
     }
 
-    /// By when on this clock a connection that begins now has to have said its startup.
+    /// By when on this clock a connection that begins now has to have said its startup. None: it may take for ever, or the clock
+    /// can't be read.
     pub fn startup_until<R: Clock>(&self, rt: &R) -> Option<Duration> {
         if self.settings.authentication_timeout.is_zero() {
             return None;

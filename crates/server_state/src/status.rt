@@ -58,7 +58,8 @@ pub struct SlotStatus {
 }
 
 impl<L: LogName + SlotName> ServerState<L> {
-    /// What is served now. The parts are looked at one after the other, so connections may have gone on in between.
+    /// What is served now. The parts are looked at one after the other, so connections may have gone on in between. `AllocError`
+    /// where memory for it is refused.
     pub fn status<R: Wait + Clock>(&self, rt: &R) -> Result<HubStatus, AllocError> {
         let size = self.log_size(rt);
         Ok(HubStatus {

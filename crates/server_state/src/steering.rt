@@ -10,7 +10,7 @@ use std::time::{Clock, Duration};
 
 impl<L: LogName + SlotName> ServerState<L> {
     /// Waits until the slot of this name is confirmed at this position or further, for so long at most, and answers whether it is.
-    /// L1 where there is none, or it is dropped, or the server ends meanwhile.
+    /// `Missing` (L1) where there is none, or it is dropped, or the server ends meanwhile.
     pub fn await_confirmed<R: Wait + Clock>(
         &self,
         rt: &R,
@@ -24,7 +24,7 @@ impl<L: LogName + SlotName> ServerState<L> {
             .ok_or(SteerFault::Missing)
     }
 
-    /// The same until a stream of the slot runs.
+    /// The same until a stream of the slot runs; `Missing` (L1) as there.
     pub fn await_stream<R: Wait + Clock>(
         &self,
         rt: &R,
@@ -38,23 +38,25 @@ impl<L: LogName + SlotName> ServerState<L> {
     }
 
     /// Nothing of the slot's stream is written any more, nor of those that come, until it is let go; statuses are read all the same.
-    /// L1.
+    /// `Missing` (L1) where there is no such slot.
     pub fn hold_stream<R: Wait>(&self, rt: &R, slot: &str) -> Result<(), SteerFault> {
         self.steer(rt, slot, StreamCommand::Hold)
     }
 
-    /// The slot's stream goes on. L1.
+    /// The slot's stream goes on. `Missing` (L1) where there is no such slot.
     pub fn resume_stream<R: Wait>(&self, rt: &R, slot: &str) -> Result<(), SteerFault> {
         self.steer(rt, slot, StreamCommand::LetGo)
     }
 
-    /// A keepalive asks the client of the slot's stream for an answer: at once, or as its next stream begins. L1.
+    /// A keepalive asks the client of the slot's stream for an answer: at once, or as its next stream begins. `Missing` (L1) where
+    /// there is no such slot.
     pub fn ask_stream<R: Wait>(&self, rt: &R, slot: &str) -> Result<(), SteerFault> {
         self.steer(rt, slot, StreamCommand::Ask)
     }
 
     /// Cuts the connection of the slot's stream, or of its next one, after so many more bytes: in the middle of a frame, where they
-    /// end in one. After none it is cut at once, between two frames. The stream after that isn't cut. L1.
+    /// end in one. After none it is cut at once, between two frames. The stream after that isn't cut. `Missing` (L1) where there is
+    /// no such slot.
     pub fn cut_stream<R: Wait>(&self, rt: &R, slot: &str, bytes: u64) -> Result<(), SteerFault> {
         self.steer(rt, slot, StreamCommand::Cut(bytes))
     }

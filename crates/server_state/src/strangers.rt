@@ -17,7 +17,8 @@ use std::sync::atomic::Ordering;
 const STRANGERS_SHARE: u32 = 3;
 
 impl<L: LogName + SlotName> ServerState<L> {
-    /// The connection of this number, of which nothing has come.
+    /// The connection of this number, of which nothing has come. Where passwords are asked, `NoNonce` where no random bytes are to
+    /// be had, then `Memory`.
     pub fn connection<R: RandomSource>(
         &self,
         rt: &R,

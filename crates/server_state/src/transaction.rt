@@ -47,7 +47,8 @@ pub struct Savepoint {
 }
 
 impl<L: LogName + SlotName> ServerState<L> {
-    /// Begins a transaction, once no other is in progress by this way.
+    /// Begins a transaction, once no other is in progress by this way. Refused in this order: `TooManyLive` (S10), `LogFull` (S7),
+    /// `Memory` (S11).
     pub fn transaction<'h, R: Wait>(
         &'h self,
         rt: &'h R,
@@ -73,7 +74,8 @@ impl<L: LogName + SlotName> ServerState<L> {
 }
 
 impl<'h, L: LogName + SlotName, R: Wait> Transaction<'h, L, R> {
-    /// The row with this key, with what this transaction has done. The key's values stand in table order.
+    /// The row with this key, with what this transaction has done. The key's values stand in table order. None where there is no
+    /// such row, or no such table.
     pub fn get(&self, table: u32, key: &Row) -> Option<&Row>
         ensures { let at = self.now.publisher in
             option_copied result
@@ -82,6 +84,8 @@ impl<'h, L: LogName + SlotName, R: Wait> Transaction<'h, L, R> {
         self.publisher.get(table, key)
     }
 
+    /// Refused in this order: `UnknownTable` (S1), `RowShape` (S2) where the row doesn't fit the table, `TooLarge` (S6), `KeyHeld`
+    /// (S5) where another transaction holds its key or the table, `DuplicateKey` (S3), `LogFull` (S7), `Memory` (S11).
     pub fn insert(&mut self, table: u32, row: Row) -> Result<(), SessionFault>
         ensures ok { OnOk result
             (self.new ≡ writes (λ xid. after_change xid (Change.Insert table row)) self.old) }
@@ -92,7 +96,9 @@ impl<'h, L: LogName + SlotName, R: Wait> Transaction<'h, L, R> {
         self.publisher.insert(self.rt, &mut self.tx, table, row)
     }
 
-    /// The row with this key becomes this one.
+    /// The row with this key becomes this one. Refused in this order: `UnknownTable` (S1), `RowShape` (S2) where the key or the row
+    /// doesn't fit the table, `TooLarge` (S6), `KeyHeld` (S5) where another transaction holds one of the two keys or the table,
+    /// `NoSuchRow` (S4), `DuplicateKey` (S3), `LogFull` (S7), `Memory` (S11).
     pub fn update(&mut self, table: u32, key: &Row, row: Row) -> Result<(), SessionFault>
         ensures ok { OnOk result
             (self.new ≡ writes
@@ -106,6 +112,8 @@ impl<'h, L: LogName + SlotName, R: Wait> Transaction<'h, L, R> {
             .update(self.rt, &mut self.tx, table, key, row)
     }
 
+    /// Refused in this order: `UnknownTable` (S1), `RowShape` (S2) where the key doesn't fit the table, `KeyHeld` (S5) where
+    /// another transaction holds it or the table, `NoSuchRow` (S4), `LogFull` (S7), `Memory` (S11).
     pub fn delete(&mut self, table: u32, key: &Row) -> Result<(), SessionFault>
         ensures ok { OnOk result
             (self.new ≡ writes
@@ -118,7 +126,9 @@ impl<'h, L: LogName + SlotName, R: Wait> Transaction<'h, L, R> {
         self.publisher.delete(self.rt, &mut self.tx, table, key)
     }
 
-    /// Empties these tables.
+    /// Empties these tables, and holds them. Refused in this order: `UnknownTable` (S1), `RowShape` (S2) where no table is named or
+    /// one twice, `TooLarge` (S6) where too many are, `KeyHeld` (S5) where another transaction holds one of them or a key there,
+    /// `LogFull` (S7), `Memory` (S11).
     pub fn truncate(&mut self, tables: &[u32]) -> Result<(), SessionFault>
         ensures ok { OnOk result
             (self.new ≡ writes (λ xid. after_change xid (Change.Truncate tables.now)) self.old) }
@@ -129,7 +139,8 @@ impl<'h, L: LogName + SlotName, R: Wait> Transaction<'h, L, R> {
         self.publisher.truncate(self.rt, &mut self.tx, tables)
     }
 
-    /// Writes a message, which streams that ask for messages send with this transaction.
+    /// Writes a message, which streams that ask for messages send with this transaction. Refused in this order: `BadPrefix` (S13),
+    /// `TooLarge` (S6) where its content is, `LogFull` (S7), `Memory` (S11).
     pub fn message(&mut self, prefix: &str, content: &[u8]) -> Result<(), SessionFault>
         ensures ok { OnOk result
             (self.new ≡ writes
@@ -142,6 +153,7 @@ impl<'h, L: LogName + SlotName, R: Wait> Transaction<'h, L, R> {
             .message(self.rt, &mut self.tx, prefix, content)
     }
 
+    /// Refused in this order: `TooDeep` (S9), `LogFull` (S7), `Memory` (S11).
     pub fn savepoint(&mut self) -> Result<Savepoint, SessionFault>
         ensures depth { IfOk result
             (λ s. s.depth ≡ length (savepoints_of self.old.xid self.old.publisher.live) + 1) }
@@ -155,7 +167,8 @@ impl<'h, L: LogName + SlotName, R: Wait> Transaction<'h, L, R> {
     }
 
     /// Ends a savepoint with what came of the work after it. At `Ok` what it changed stays, at `Err` all of it is undone. Where that
-    /// is refused, the transaction can't commit any more: `end` aborts it, whatever it is ended with.
+    /// is refused, by `NoSavepoint` (S8) where an outer one ended before, or `LogFull` (S7) or `Memory` (S11) where all is to be
+    /// undone, the transaction can't commit any more: `end` aborts it, whatever it is ended with.
     pub fn end_savepoint<T, E>(&mut self, savepoint: Savepoint, done: Result<T, E>) -> Result<T, E>
     where
         T: Drop,
@@ -199,8 +212,9 @@ impl<'h, L: LogName + SlotName, R: Wait> Transaction<'h, L, R> {
 
 impl<'h, L: LogName + SlotName, R: Wait + Clock> Transaction<'h, L, R> {
     /// Ends the transaction with what came of its work. At `Ok` it commits at this time, in microseconds since 2000-01-01, and
-    /// the streams read on after it; at `Err` it is aborted, and nothing of it stands. A commit that is refused is an abort. Where
-    /// memory is refused for that too, the error is `Unended`, whatever the work answered.
+    /// the streams read on after it; at `Err` it is aborted, and nothing of it stands. A commit that is refused is an abort
+    /// (`Aborted`, with the commit's `SessionFault`). Where memory is refused for that too, the error is `Unended`, whatever the
+    /// work answered.
     #[tactic(auto, using(crate::proofs::Ends::told_by))]
     pub fn end<T, E>(self, time: i64, done: Result<T, E>) -> Result<T, E>
     where

@@ -28,7 +28,8 @@ use Rattle.store.specs.Keeping.{StoreState, Put, Keeps, Makes, IsRefusal, Delete
 use Rattle.store.proofs.Keys.{row_key_le, key_length}
 use Rattle.tables.proofs.Lengths.{row_length_is}
 use Rattle.store.proofs.Histories.{or_left, or_right}
-use Rattle.store.proofs.Holding.{Off, OffAll, free_place, front_of_row, front_of_key, IsHome, stands_home}
+use Rattle.store.specs.Snapshots.{IsHome}
+use Rattle.store.proofs.Holding.{Off, OffAll, free_place, front_of_row, front_of_key, stands_home}
 use Rattle.store.proofs.Storing.{keeps_made, row_is, held_key}
 
 -- REFUSALS

@@ -15,6 +15,7 @@ use Rattle.store.specs.Slots.{same_key, vacant}
 use Rattle.store.specs.Rows.{Key, Rows, key_text}
 use Rattle.tables.specs.Tables.{FitsRow, FitsChange}
 use Rattle.store.specs.History.{Made, is_other, is_within, is_among, is_held, is_key_held, rows_with, rows_from, row_place, table_place, places_of}
+use Rattle.store.specs.Snapshots.{IsHome}
 use Rattle.store.specs.Keeping.{Put, all_emptied, put_at, is_put, puts_of, emptied_slot, slot_after_emptying, is_emptied, touches, slot_by, slot_from, Follows, KeepsOff, AreApart}
 use Rattle.store.proofs.Undoing.{same_self, keys_same}
 use Rattle.store.proofs.Histories.{or_left, or_right, put_off}
@@ -312,11 +313,6 @@ keeps_off tables top m n own puts_alone off k on also =
         by_test false same is rest = rest is
 
 -- ROWS STAND AT THEIR KEYS
-
-pub record IsHome (tables : List Table) (k : List ℕ) (row : List Value) : Type 0 where
-  pub oid : ℕ
-  pub fits : FitsRow tables oid row
-  pub place : k ≡ row_place tables oid row
 
 abbrev AtHome : List Table → List ℕ → Slot → Type 0
 AtHome tables k s = (row : List Value) → s.row ≡ Some row → IsHome tables k row

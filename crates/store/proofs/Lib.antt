@@ -5,6 +5,7 @@ pub mod Holding
 pub mod Keys
 pub mod Outcomes
 pub mod Refusing
+pub mod Snapshots
 pub mod Storing
 pub mod Truncating
 pub mod Undoing

@@ -3,3 +3,4 @@ pub mod History
 pub mod Keeping
 pub mod Rows
 pub mod Slots
+pub mod Snapshots

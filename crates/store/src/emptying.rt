@@ -13,8 +13,8 @@ use pqformat::Items;
 use std::alloc::{AllocError, Global};
 
 impl Slots {
-    /// Takes the rows of tables away and holds the tables for a transaction, and answers what stood there. Without memory
-    /// the same stands at each place.
+    /// Takes the rows of tables away and holds the tables for a transaction, and answers what stood there. `AllocError` where
+    /// memory is refused: then the same stands at each place.
     pub fn empty(
         &mut self,
         alloc: Global,

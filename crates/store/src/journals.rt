@@ -1,10 +1,14 @@
 //! What live transactions changed, so that it can be undone.
 
-ghost use Rattle.std.specs.Prelude.{ℕ, ◌≡◌, ◌==◌, ◌<◌, ◌≤◌, ◌++◌, ◌∷◌, [], IfErr, MatchOption, OnErr, OnOk, length, if◌then◌else◌, nat_eq, IsSome, false};
+ghost use Rattle.std.specs.Prelude.{List, ℕ, IfOk, ◌≡◌, ◌==◌, ◌<◌, ◌≤◌, ◌++◌, ◌∷◌, [], IfErr, MatchOption, OnErr, OnOk, length, if◌then◌else◌, nat_eq, IsSome, false};
 ghost use Rattle.std.specs.Map.{lookup};
-ghost use Rattle.store.specs.Keeping.{journal_of};
+ghost use Rattle.store.specs.History.{Made};
+ghost use Rattle.store.specs.Keeping.{Journals as Kept, journal_of};
+ghost use Rattle.store.specs.Snapshots.{Settling};
+ghost use Rattle.tables.specs.declared.table.Table.{Table};
 
 use crate::slot::Undo;
+use crate::slots::Slots;
 use indexmap::IndexMap;
 use pqformat::Items;
 use std::alloc::{AllocError, Global};
@@ -57,6 +61,21 @@ impl Journal {
     {
         self.changes.pop()
     }
+
+    /// Undoes all changes in slots, the last first, and stays as it is.
+    fn undo_in(&self, alloc: Global, slots: &mut Slots) -> Result<(), AllocError>
+        ensures { OnOk result
+            ((tables : List Table) (top : ℕ) (rest : Kept) (history : List Made) →
+            Settling tables slots.old ((top, self.now) ∷ rest) history →
+            Settling tables slots.new ((top, []) ∷ rest) history) }
+    {
+        let mut left = self.changes.len();
+        while left > 0 {
+            left -= 1;
+            slots.undo(copy_of(alloc, self.changes[left].as_slice())?);
+        }
+        Ok(())
+    }
 }
 
 /// The journals of the live transactions, by their xids. Contracts see the xids with the journals; one that isn't there is
@@ -106,7 +125,7 @@ impl Journals {
         Ok(())
     }
 
-    /// Adds a change of a transaction, or gives it back where memory is refused.
+    /// Adds a change of a transaction, or gives it back as the error where memory is refused.
     pub fn push(&mut self, top: u32, undos: Items<Undo>) -> Result<(), Items<Undo>>
         ensures ok { OnOk result
             ((x : ℕ) →
@@ -143,6 +162,18 @@ impl Journals {
         }
     }
 
+    /// Undoes in slots what all live transactions changed, and stays as it is.
+    pub fn undo_all(&self, alloc: Global, slots: &mut Slots) -> Result<(), AllocError>
+        ensures { OnOk result
+            ((tables : List Table) (history : List Made) →
+            Settling tables slots.old self.now history → Settling tables slots.new [] history) }
+    {
+        for (_, journal) in self.by_top.iter() {
+            journal.undo_in(alloc, slots)?;
+        }
+        Ok(())
+    }
+
     /// Takes out the journal of a transaction.
     pub fn remove(&mut self, top: u32) -> Option<Journal>
         ensures journal { MatchOption result (journal_of top self.old ≡ [])
@@ -152,4 +183,14 @@ impl Journals {
     {
         self.by_top.swap_remove(&top)
     }
+}
+
+fn copy_of(alloc: Global, undos: &[Undo]) -> Result<Items<Undo>, AllocError>
+    ensures { IfOk result (λ copy. copy ≡ undos.now) }
+{
+    let mut copies = Vec::with_capacity(alloc, undos.len())?;
+    for undo in undos {
+        copies.push(undo.copy(alloc)?)?;
+    }
+    Ok(Items::new(copies))
 }

@@ -15,7 +15,7 @@ use crate::store_fault::StoreFault;
 use tables::{Change, MAX_TRUNCATED, Row, repeats};
 
 impl Store {
-    /// The place of a row that may be inserted.
+    /// The place of a row that may be inserted. Refused as `Store::insert`, but for `Memory`.
     pub(crate) fn judge_insert(&self, top: u32, oid: u32, row: &Row) -> Result<Place, StoreFault>
         ensures refused { RefusedExactly
             (insert_fault self.now.tables oid row.now
@@ -42,7 +42,7 @@ impl Store {
         Ok(place)
     }
 
-    /// The places of a row that may be updated, and of the one that comes for it.
+    /// The places of a row that may be updated, and of the one that comes for it. Refused as `Store::update`, but for `Memory`.
     pub(crate) fn judge_update(
         &self,
         top: u32,
@@ -130,7 +130,7 @@ impl Store {
         Ok((from, to))
     }
 
-    /// The place of a row that may be deleted.
+    /// The place of a row that may be deleted. Refused as `Store::delete`, but for `Memory`.
     pub(crate) fn judge_delete(&self, top: u32, oid: u32, key: &Row) -> Result<Place, StoreFault>
         ensures refused { AreShort self.now.slots →
             RefusedExactly
@@ -152,7 +152,7 @@ impl Store {
         }
     }
 
-    /// Whether tables may be emptied.
+    /// Whether tables may be emptied. Refused as `Store::truncate`, but for `Memory`.
     pub(crate) fn judge_truncate(&self, top: u32, oids: &[u32]) -> Result<(), StoreFault>
         ensures refused { (history : List Made) → Keeps self.now history →
             RefusedExactly (truncate_refusal self.now.tables history top oids.now) result }

@@ -14,9 +14,11 @@ mod key;
 mod message;
 mod slot;
 mod slots;
+mod snapshot;
 mod store;
 mod store_fault;
 
 pub use message::message_of;
+pub use snapshot::Snapshot;
 pub use store::Store;
 pub use store_fault::StoreFault;

@@ -12,7 +12,8 @@ use pqformat::Items;
 use std::alloc::{AllocError, Global};
 use tables::{Change, MAX_CONTENT_LENGTH, Message, is_prefix};
 
-/// A message that may stand in the log. S13, S6, S11 in this order.
+/// A message that may stand in the log. Refused in this order: `BadPrefix` (S13), `TooLarge` (S6) where its content is, `Memory`
+/// (S11).
 pub fn message_of(alloc: Global, prefix: &str, content: &[u8]) -> Result<Message, StoreFault>
     ensures value { IfOk result (λ m. m ≡ record { prefix = prefix.now; content = content.now }) }
     ensures fits { IfOk result FitsMessage }
@@ -40,7 +41,8 @@ fn judge(prefix: &str, content: &[u8]) -> Result<(), StoreFault>
 }
 
 impl Store {
-    /// Makes a message, which is undone with the changes after which it stands. S13, S6, S11 in this order.
+    /// Makes a message, which is undone with the changes after which it stands. Refused in this order: `BadPrefix` (S13),
+    /// `TooLarge` (S6) where its content is, `Memory` (S11).
     pub fn message(&mut self, top: u32, prefix: &str, content: &[u8]) -> Result<Change, StoreFault>
         ensures change { IfOk result
             (λ change. change

@@ -1,11 +1,12 @@
 //! What stands at a place of a store, and what stood there before a change.
 
-ghost use Rattle.std.specs.Prelude.{◌≡◌};
+ghost use Rattle.std.specs.Prelude.{◌≡◌, IfOk};
 ghost use Rattle.store.specs.History.{is_other};
 ghost use Rattle.store.specs.Keeping.{slot_after_end};
 ghost use Rattle.store.specs.Slots.{is_used, vacant};
 
 use pqformat::Items;
+use std::alloc::{AllocError, Global};
 use tables::Row;
 
 /// What stands at a place: the row, if there is one, and the live transaction that holds the place, if there is one.
@@ -33,6 +34,19 @@ impl Slot {
         }
     }
 
+    pub fn copy(&self, alloc: Global) -> Result<Self, AllocError>
+        ensures { IfOk result (λ copy. copy ≡ self.now) }
+    {
+        let row = match &self.row {
+            Some(row) => Some(row.copy(alloc)?),
+            None => None,
+        };
+        Ok(Slot {
+            row,
+            owner: self.owner,
+        })
+    }
+
     /// Whether a transaction holds it or a row stands there.
     pub fn is_used(&self) -> bool
         ensures { result ≡ is_used self.now }
@@ -57,5 +71,15 @@ impl Slot {
         if self.owner == Some(top) {
             self.owner = None;
         }
+    }
+}
+
+impl Undo {
+    pub fn copy(&self, alloc: Global) -> Result<Self, AllocError>
+        ensures { IfOk result (λ copy. copy ≡ self.now) }
+    {
+        let key = Items::new(Vec::from_slice(alloc, self.key.as_slice())?);
+        let before = self.before.copy(alloc)?;
+        Ok(Undo { key, before })
     }
 }

@@ -1,10 +1,11 @@
 //! What stands at each place.
 
-ghost use Rattle.std.specs.Prelude.{List, ℕ, ◌≡◌, ◌≤◌, ◌++◌, ◌∷◌, [], ◌&&◌, IfOk, OnErr, OnOk, false, is_some, length, not, true, if◌then◌else◌};
+ghost use Rattle.std.specs.Prelude.{List, ℕ, ◌≡◌, ◌≤◌, ◌++◌, ◌∷◌, [], ◌&&◌, IfOk, OnErr, OnOk, false, is_some, length, map, not, slice_range, true, if◌then◌else◌};
 ghost use Rattle.std.specs.Option.{option_copied};
 ghost use Rattle.store.specs.Emptying.{AreAtPlace, filled_within, is_other_within};
 ghost use Rattle.store.specs.History.{is_top};
 ghost use Rattle.store.specs.Keeping.{AreShort, SameSlots, is_in_journal, is_noted, noted_of, put_all, slot_after_end};
+ghost use Rattle.store.specs.Snapshots.{AreOnce, standing_of, standing_within};
 ghost use Rattle.store.specs.Slots.{AreUsed, CanUndo, is_used, same_key, slot_at, slots_with, undone_at, vacant};
 
 use crate::journals::Journal;
@@ -42,6 +43,54 @@ impl Slots {
         }
     }
 
+    /// How many places there are. None of them has two slots.
+    pub fn len(&self) -> usize
+        ensures len { result ≡ length self.now }
+        ensures once { AreOnce self.now }
+    {
+        self.by_place.len()
+    }
+
+    pub fn copy(&self, alloc: Global) -> Result<Self, AllocError>
+        ensures { IfOk result (λ copy. copy ≡ self.now) }
+    {
+        let mut by_place = IndexMap::new(alloc);
+        for (place, slot) in self.by_place.iter() {
+            let name = Vec::from_slice(alloc, place.as_slice())?;
+            by_place.insert(name, slot.copy(alloc)?)?;
+        }
+        Ok(Slots { by_place })
+    }
+
+    /// Copies of the rows of a table that stand from one place on up to another.
+    pub fn rows_between(
+        &self,
+        alloc: Global,
+        oid: u32,
+        start: usize,
+        end: usize,
+    ) -> Result<Vec<Row>, AllocError>
+        requires { (start ≤ end) × (end ≤ length self.now) }
+        ensures { IfOk result
+            (λ rows. rows.items
+            ≡ map (λ s. s.1)
+            (standing_within oid (standing_of (slice_range self.now start end)))) }
+    {
+        let mut rows = Vec::new(alloc);
+        let Some(part) = self.by_place.get_range(start..end) else {
+            return Ok(rows);
+        };
+        for (place, slot) in part.iter() {
+            if !is_within(&[oid], place.as_slice()) {
+                continue;
+            }
+            if let Some(row) = &slot.row {
+                rows.push(row.copy(alloc)?)?;
+            }
+        }
+        Ok(rows)
+    }
+
     /// The row at a place.
     pub fn row(&self, place: &[u8]) -> Option<&Row>
         ensures { option_copied result ≡ (slot_at self.now place.now).row }
@@ -75,7 +124,7 @@ impl Slots {
         false
     }
 
-    /// The places of these tables at which a row stands. It goes through all places.
+    /// The places of these tables at which a row stands. It goes through all places. `AllocError` where memory is refused.
     pub fn rows_within(&self, oids: &[u32]) -> Result<Items<Items<u8>>, AllocError>
         ensures rows { IfOk result (λ places. places ≡ filled_within oids.now self.now) }
         ensures places { OnOk result (AreAtPlace self.now) }
@@ -143,8 +192,8 @@ impl Slots {
         self.by_place.swap_remove(place);
     }
 
-    /// Puts a row, or none, at a place for a transaction, and notes after the others what stood there. Without memory
-    /// nothing changes.
+    /// Puts a row, or none, at a place for a transaction, and notes after the others what stood there. `AllocError` where memory is
+    /// refused: then nothing changes.
     pub fn note(
         &mut self,
         undos: &mut Vec<Undo>,
@@ -171,7 +220,8 @@ impl Slots {
         Ok(())
     }
 
-    /// Puts a row, or none, at a place for a transaction, and answers what stood there.
+    /// Puts a row, or none, at a place for a transaction, and answers what stood there. `AllocError` where memory is refused: then
+    /// nothing changes.
     pub fn put_one(
         &mut self,
         top: u32,
@@ -188,7 +238,8 @@ impl Slots {
         Ok(Items::new(undos))
     }
 
-    /// Takes the row at a place away and puts one at another, for a transaction, and answers what stood there.
+    /// Takes the row at a place away and puts one at another, for a transaction, and answers what stood there. `AllocError` where
+    /// memory is refused: then nothing changes.
     pub fn put_two(
         &mut self,
         top: u32,

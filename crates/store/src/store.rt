@@ -63,7 +63,7 @@ impl Store {
         &self.catalog
     }
 
-    /// The row with this key. The key's values stand in table order.
+    /// The row with this key. The key's values stand in table order. None where there is no such row, or no such table.
     pub fn get(&self, oid: u32, key: &Row) -> Option<&Row>
         ensures { (history : List Made) → Keeps self.now history →
             option_copied result
@@ -104,7 +104,8 @@ impl Store {
         }
     }
 
-    /// Inserts a row. S1, S2, S6, S5, S3, S11 in this order.
+    /// Inserts a row. Refused in this order: `UnknownTable` (S1), `RowShape` (S2) where the row doesn't fit the table, `TooLarge`
+    /// (S6), `KeyHeld` (S5) where another transaction holds its key or the table, `DuplicateKey` (S3), `Memory` (S11).
     pub fn insert(&mut self, top: u32, oid: u32, row: Row) -> Result<Change, StoreFault>
         ensures change { IfOk result (λ change. change ≡ Change.Insert oid row) }
         ensures fits { IfOk result (λ change. FitsChange self.old.tables change) }
@@ -142,7 +143,9 @@ impl Store {
         Ok(Change::Insert(oid, row))
     }
 
-    /// Puts a row in the place of the one with this key, whose key it may change. S1, S2, S6, S5, S4, S3, S11 in this order.
+    /// Puts a row in the place of the one with this key, whose key it may change. Refused in this order: `UnknownTable` (S1),
+    /// `RowShape` (S2) where the key or the row doesn't fit the table, `TooLarge` (S6), `KeyHeld` (S5) where another transaction
+    /// holds one of the two keys or the table, `NoSuchRow` (S4), `DuplicateKey` (S3), `Memory` (S11).
     pub fn update(&mut self, top: u32, oid: u32, key: &Row, row: Row) -> Result<Change, StoreFault>
         ensures fits { IfOk result
             (λ change. (history : List Made) → Keeps self.old history →
@@ -195,7 +198,8 @@ impl Store {
         Ok(Change::Update(oid, old, row))
     }
 
-    /// Deletes the row with this key. S1, S2, S5, S4, S11 in this order.
+    /// Deletes the row with this key. Refused in this order: `UnknownTable` (S1), `RowShape` (S2) where the key doesn't fit the
+    /// table, `KeyHeld` (S5) where another transaction holds it or the table, `NoSuchRow` (S4), `Memory` (S11).
     pub fn delete(&mut self, top: u32, oid: u32, key: &Row) -> Result<Change, StoreFault>
         ensures fits { IfOk result
             (λ change. (history : List Made) → Keeps self.old history →
@@ -237,7 +241,9 @@ impl Store {
         Ok(Change::Delete(oid, old))
     }
 
-    /// Empties tables, and holds them. S1, S2, S6, S5, S11 in this order. It goes through all places of the store.
+    /// Empties tables, and holds them. Refused in this order: `UnknownTable` (S1), `RowShape` (S2) where no table is named or one
+    /// twice, `TooLarge` (S6) where too many are, `KeyHeld` (S5) where another transaction holds one of them or a key there,
+    /// `Memory` (S11). It goes through all places of the store.
     pub fn truncate(&mut self, top: u32, oids: &[u32]) -> Result<Change, StoreFault>
         ensures change { IfOk result (λ change. change ≡ Change.Truncate oids.now) }
         ensures fits { IfOk result (λ change. FitsChange self.old.tables change) }
@@ -308,7 +314,7 @@ impl Store {
         self.note(top, undos)
     }
 
-    /// Notes what was put, or undoes it where memory is refused.
+    /// Notes what was put, or undoes it where memory is refused (`AllocError`).
     pub(crate) fn note(&mut self, top: u32, undos: Items<Undo>) -> Result<(), AllocError>
         ensures tables { self.new.tables ≡ self.old.tables }
         ensures slots { OnOk result (self.new.slots ≡ self.old.slots) }

@@ -141,7 +141,7 @@ const SUBCAT: CommandLine<'static> = CommandLine {
     words: &WORDS,
 };
 
-/// All words, or the text for a user who asks for help or gives other words.
+/// All words. `Usage`, with the text to tell, where a user asks for help or gives other words, or where memory is refused.
 pub fn words_of<'a>(alloc: Global, given: &'a [String]) -> Result<Words<'a>, WordsFault> {
     match read(alloc, given) {
         Ok(matches) => Ok(words_in(&matches)),

@@ -22,8 +22,8 @@ pub struct Journal<'a> {
 }
 
 impl<'a> Journal<'a> {
-    /// Opens the file, or makes one, and answers what it holds of earlier runs that printed in this form. It is refused where it
-    /// holds something else.
+    /// Opens the file, or makes one, and answers what it holds of earlier runs that printed in this form. `Journal` where it can't
+    /// be used, `JournalInUse` where another run has it, `ForeignJournal` where it holds something else, or `Memory`.
     pub fn open(
         rt: &'a HostRuntime,
         alloc: Global,
@@ -44,7 +44,8 @@ impl<'a> Journal<'a> {
         Ok((journal, kept))
     }
 
-    /// The system that it holds transactions of, where it holds some and this is known.
+    /// The system that it holds transactions of, where it holds some and this is known. `System` where the file beside it can't be
+    /// read.
     pub fn system(&self, kept: &ResumePoint) -> Result<Option<String>, Fault> {
         if kept.transactions == 0 {
             return Ok(None);

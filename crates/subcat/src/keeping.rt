@@ -12,10 +12,10 @@ use std::thread;
 use std::time::{Clock, Duration};
 
 /// For how many seconds a read waits. Then the server is asked whether it is there, and after as many more it is lost, as
-/// PostgreSQL's wal_receiver_timeout has it unless it is set.
+/// PostgreSQL's wal_receiver_timeout has it unless it is set (PostgreSQL 15, 20.6.3).
 const PATIENCE: u64 = 30;
 
-/// Follows into the standard output.
+/// Follows into the standard output. `Follow` where a fault isn't a passing one.
 pub fn keep_printing<
     N: Net<Listener = TcpListener, Stream = TcpStream> + Wait + Clock + RandomSource,
 >(rt: &HostRuntime, net: &N, address: SocketAddr, options: &Options) -> Result<(), Fault> {
@@ -24,7 +24,8 @@ pub fn keep_printing<
     keep_following(rt, net, address, options, &mut subscription, &mut output)
 }
 
-/// Follows into a file, from where it ends. What it holds counts.
+/// Follows into a file, from where it ends. What it holds counts. Faults as of `Journal::open` and `Journal::system`, then as of
+/// `keep_printing`.
 pub fn keep_in<N: Net<Listener = TcpListener, Stream = TcpStream> + Wait + Clock + RandomSource>(
     rt: &HostRuntime,
     net: &N,

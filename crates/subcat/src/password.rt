@@ -52,7 +52,8 @@ impl PasswordFault {
     }
 }
 
-/// The user that is told, or else that of the environment, or else the usual one.
+/// The user that is told, or else that of the environment, or else the usual one. `Variable` where the environment's is no text, or
+/// `Memory`.
 pub fn user_of(rt: &HostRuntime, told: Option<&str>) -> Result<String, PasswordFault> {
     if let Some(user) = told {
         return Ok(user.to_string(rt.alloc())?);
@@ -64,6 +65,8 @@ pub fn user_of(rt: &HostRuntime, told: Option<&str>) -> Result<String, PasswordF
 }
 
 /// The password of the environment, or else the first one that fits of the file at this path, or, where none is told, of the usual one.
+/// `Variable` where a variable is no text. Of a file that is told, `Unread` where it can't be read, `NotPlain` where it is no plain
+/// file, `Open` where others have rights to it, as PostgreSQL's clients refuse it (PostgreSQL 15, 34.16). Or `Memory`.
 pub fn password_of(
     rt: &HostRuntime,
     told: Option<&str>,
@@ -88,7 +91,8 @@ fn variable(rt: &HostRuntime, name: &'static str) -> Result<Option<String>, Pass
     }
 }
 
-/// As PostgreSQL's clients have it, a usual file that can't be read holds nothing, and one that may not be used is told and left alone.
+/// As PostgreSQL's clients have it (PostgreSQL 15, 34.16), a usual file that can't be read holds nothing, and one that may not be
+/// used is told and left alone.
 fn in_usual_file(rt: &HostRuntime, place: &Place<'_>) -> Result<Option<Vec<u8>>, PasswordFault> {
     let Some(path) = usual_path(rt)? else {
         return Ok(None);

@@ -29,7 +29,7 @@ fn without_brackets(host: &str) -> &str {
     }
 }
 
-/// The password of the first line that fits.
+/// The password of the first line that fits. `AllocError` where memory for it is refused.
 pub fn password_at(
     alloc: Global,
     text: &[u8],

@@ -16,7 +16,7 @@ pub struct SystemFile<'a> {
 }
 
 impl<'a> SystemFile<'a> {
-    /// The one beside an output of this path.
+    /// The one beside an output of this path. `AllocError` where memory for its path is refused.
     pub fn beside(rt: &'a HostRuntime, alloc: Global, path: &str) -> Result<Self, AllocError> {
         Ok(SystemFile {
             rt,
@@ -24,7 +24,7 @@ impl<'a> SystemFile<'a> {
         })
     }
 
-    /// What it says, where it is there and whole.
+    /// What it says, where it is there and whole. The system's error where it can't be read, or `OutOfMemory`.
     pub fn read(&self) -> io::Result<Option<String>> {
         match read_to_string(self.rt, self.path.as_str()) {
             Ok(text) => Ok(whole(self.rt.alloc(), text.as_str())?),
@@ -33,7 +33,7 @@ impl<'a> SystemFile<'a> {
         }
     }
 
-    /// Has it say this, on the disk.
+    /// Has it say this, on the disk. The system's error where it can't be written, or `OutOfMemory`.
     pub fn write(&self, system: &str) -> io::Result<()> {
         let line = joined(self.rt.alloc(), system, "\n")?;
         let mut file: File = File::create(self.rt, self.path.as_str())?;

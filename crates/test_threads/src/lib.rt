@@ -28,6 +28,8 @@ mod receipt_calls;
 #[cfg(test)]
 mod slot_calls;
 #[cfg(test)]
+mod snapshot_calls;
+#[cfg(test)]
 mod turn_calls;
 #[cfg(test)]
 mod work;

@@ -95,7 +95,8 @@ pub fn commit_elsewhere<L: LogName + Send + Sync, R: Threads + Wait + Sync>(
     done
 }
 
-fn commit_one<L: LogName, R: Wait>(
+/// A transaction with one insert.
+pub fn commit_one<L: LogName, R: Wait>(
     rt: &R,
     publisher: &mut Publisher<L>,
     row: Row,

@@ -7,6 +7,7 @@ use crate::giving_calls::give_all_back;
 use crate::load_calls::run_load;
 use crate::log_fixture::opened;
 use crate::receipt_calls::learn_elsewhere;
+use crate::snapshot_calls::read_beside_changes;
 use crate::turn_calls::{look_twice, turn_narrowly};
 use shared_log::{LogName, LogReader};
 use std::alloc::Global;
@@ -25,13 +26,15 @@ pub enum Work {
     TurnNarrowly,
     DrainByBytes,
     GiveBack,
+    ReadSnapshot,
     Load,
 }
 
 impl Work {
     fn readers(self) -> usize {
         match self {
-            Work::LearnElsewhere | Work::TurnNarrowly | Work::DrainByBytes | Work::GiveBack => 1,
+            Work::LearnElsewhere | Work::TurnNarrowly | Work::DrainByBytes => 1,
+            Work::GiveBack | Work::ReadSnapshot => 1,
             Work::LookTwice | Work::Load => 2,
         }
     }
@@ -75,6 +78,7 @@ fn with_log<L: LogName + Send + Sync, R: Threads + Wait + Abort + Sync>(
         (Work::TurnNarrowly, [reader]) => turn_narrowly(rt, alloc, backend, reader),
         (Work::DrainByBytes, [reader]) => drain_by_bytes(rt, alloc, backend, reader),
         (Work::GiveBack, [reader]) => give_all_back(rt, alloc, backend, reader),
+        (Work::ReadSnapshot, [_]) => read_beside_changes(rt, alloc, backend),
         (Work::Load, [reader, last]) => run_load(rt, alloc, backend, reader, last),
         _ => Err(Fail::from("as many readers")),
     }

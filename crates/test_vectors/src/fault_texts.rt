@@ -91,9 +91,10 @@ const WORLD_FAULTS: [WorldFault; 3] = [
 
 const CONFIG_FAULTS: [ConfigFault; 1] = [ConfigFault::Memory];
 
-const ANSWERS: [Answer; 27] = [
+const ANSWERS: [Answer; 28] = [
     Answer::Done,
     Answer::NoReader,
+    Answer::Removed,
     Answer::Session(SessionFault::UnknownTable),
     Answer::Session(SessionFault::RowShape),
     Answer::Session(SessionFault::DuplicateKey),

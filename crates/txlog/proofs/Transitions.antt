@@ -15,6 +15,7 @@ use Rattle.wal.specs.declared.record.Body.{Body}
 use Rattle.wal.specs.declared.record.Body.TheVariants.{Assign, Change as Changed, AbortSub, Abort, Commit, Note}
 use Rattle.wal.specs.Log.{IsSized, IsOpen, IsNext, FitsBody, FitsRecord, IsMessage, size_of, end_of, names, is_named, assigns, is_assigned, chain, last_of, top_of, undoes, is_undone, ends}
 use Rattle.wal.specs.Records.{record_after}
+use Rattle.txlog.specs.Snapshots.{no_snapshots}
 use Rattle.txlog.specs.Publishing.{LiveTransaction, PublisherState, xids, with_record, next_savepoint, room, is_live, savepoints_of, innermost, with_savepoints, without, after_begin, after_change, after_savepoint, after_release, after_rollback, after_end, after_commit, after_abort}
 use Rattle.txlog.specs.Invariants.{IsLog, IsInProgress, IsRunning, IsPublisher}
 use Rattle.wal.proofs.Laws.{end_of-append, follows-append, WellFormedAfter-append, is_named-one, is_assigned-one, is_undone-one, chain-append, chain-unassigned, all_when}
@@ -85,7 +86,7 @@ unnamed-undoes x (Commit xid time) none = refl
 
 -- CALLS THAT WRITE NO RECORD
 
-pub new_publisher-IsPublisher : (tables : List Table) (records : ℕ) → records ≤ MAX_RECORDS → IsPublisher (record { tables = tables; capacity = records; log = []; given = 0; next_xid = FIRST_XID; live = [] })
+pub new_publisher-IsPublisher : (tables : List Table) (records : ℕ) → records ≤ MAX_RECORDS → IsPublisher (record { tables = tables; capacity = records; log = []; given = 0; next_xid = FIRST_XID; live = []; snapshots = no_snapshots })
 new_publisher-IsPublisher tables records le = record {
   log = record { good = record { follows = refl; sizes = tt; order = tt }; in_range = tt; near = omega arith };
   limit = omega (arith, le);

@@ -3,6 +3,7 @@ pub mod Invariants
 pub mod Publishing
 pub mod Receipts
 pub mod Rows
+pub mod Snapshots
 pub use Rattle.pqformat.specs.Fields
 pub use Rattle.tables.specs.Spelling
 pub use Rattle.tables.specs.Tables

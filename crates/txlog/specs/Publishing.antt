@@ -24,6 +24,7 @@ use Rattle.wal.specs.Records.{record_after}
 use Rattle.shared_log.specs.Kept.{given_after}
 use Rattle.txlog.specs.Receipts.{Committed}
 use Rattle.txlog.specs.Rows.{history_of, rows_of}
+use Rattle.txlog.specs.Snapshots.{Snapshots, no_snapshots}
 
 -- THE STATE
 
@@ -36,7 +37,7 @@ abbrev pub xids : List Savepoint → List ℕ
 xids savepoints = map (λ s. s.xid) savepoints
 
 -- the tables, the greatest number of records that the log may have so far, the log, the place up to which its records may be given
--- back, the xid that comes next, and the live transactions in the order of their xids
+-- back, the xid that comes next, the live transactions in the order of their xids, and the snapshots, which only calls on them change
 pub record PublisherState : Type 0 where
   pub tables : List Table
   pub capacity : ℕ
@@ -44,9 +45,13 @@ pub record PublisherState : Type 0 where
   pub given : ℕ
   pub next_xid : ℕ
   pub live : List LiveTransaction
+  pub snapshots : Snapshots
+
+abbrev pub with_snapshots : Snapshots → PublisherState → PublisherState
+with_snapshots snapshots s = record s { snapshots = snapshots }
 
 abbrev pub new_publisher : List Table → ℕ → PublisherState
-new_publisher tables records = record { tables = tables; capacity = records; log = []; given = 0; next_xid = FIRST_XID; live = [] }
+new_publisher tables records = record { tables = tables; capacity = records; log = []; given = 0; next_xid = FIRST_XID; live = []; snapshots = no_snapshots }
 
 abbrev pub log_end : PublisherState → ℕ
 log_end s = end_of FIRST_POSITION s.log

@@ -20,6 +20,8 @@ mod receipt;
 mod rowless;
 mod running;
 mod savepoint;
+mod snapshot_fault;
+mod snapshots;
 mod tx;
 
 pub use fault::SessionFault;
@@ -29,4 +31,6 @@ pub use opened::Opened;
 pub use publisher::Publisher;
 pub use receipt::Receipt;
 pub use rowless::a_message_changes_no_row;
+pub use snapshot_fault::SnapshotFault;
+pub use snapshots::Piece;
 pub use tx::Tx;

@@ -15,6 +15,7 @@ use crate::live::Live;
 use crate::opened::Opened;
 use crate::receipt::Receipt;
 use crate::savepoint::Savepoint;
+use crate::snapshots::Snapshots;
 use crate::tx::Tx;
 use catalog::Catalog;
 use shared_log::{LogName, LogReader, LogWriter};
@@ -44,6 +45,7 @@ pub struct Publisher<L: LogName> {
     pub(crate) log: LogWriter<L>,
     next_xid: u32,
     pub(crate) live: Live,
+    pub(crate) snapshots: Snapshots,
 }
 
 impl<L: LogName> Model for Publisher<L> {
@@ -59,6 +61,7 @@ impl<L: LogName> Model for Publisher<L> {
       given = p.log.given;
       next_xid = p.next_xid;
       live = p.live;
+      snapshots = p.snapshots;
     } };
 
     ghost invariant = { λ p. KeepsLog p.store (record {
@@ -68,6 +71,7 @@ impl<L: LogName> Model for Publisher<L> {
       given = p.log.given;
       next_xid = p.next_xid;
       live = p.live;
+      snapshots = p.snapshots;
     }) };
 }
 
@@ -98,6 +102,7 @@ impl<L: LogName> Publisher<L> {
                     log,
                     next_xid: FIRST_XID,
                     live: Live::new(alloc),
+                    snapshots: Snapshots::new(alloc),
                 };
                 Ok((publisher, made))
             }
@@ -113,6 +118,7 @@ impl<L: LogName> Publisher<L> {
             log,
             next_xid: _,
             live: _,
+            snapshots: _,
         } = self;
         log.close(rt);
     }
@@ -136,6 +142,13 @@ impl<L: LogName> Publisher<L> {
         ensures { result ≡ length self.now.log }
     {
         self.log.count()
+    }
+
+    /// How many of them were given back, with those that leave memory with the next ones.
+    pub fn given(&self) -> usize
+        ensures { result ≡ self.now.given }
+    {
+        self.log.given()
     }
 
     /// How many of them lie in memory, without those that leave it with the next ones.

@@ -40,6 +40,14 @@ sent_of selection s o = sent_behind selection s.strands.pool (reverse o.relation
 abbrev pub settled_of : ReorderState → Outgoing → ReorderState
 settled_of s o = after_giving_all_back s (ready_states o.waiting.items)
 
+-- What was taken has been taken once all that is held has gone out.
+abbrev pub StaysTaken : ReorderState → ReorderState → Outgoing → Type 0
+StaysTaken old new o = (rs : List Record) → HasTaken old rs → HasTaken (settled_of new o) rs
+
+-- The arena has as many chunks once all that is held has gone out as where these were given back.
+abbrev pub StaysTidy : ReorderState → List ReadyState → ReorderState → Outgoing → Type 0
+StaysTidy old given new o = (count : ℕ) → IsTidy count [] (after_giving_all_back old given).strands → IsTidy count [] (settled_of new o).strands
+
 -- a transaction that waits, with the chunks that its changes fill
 abbrev pub lent_in : Arena → CommittedTransaction → LentTransaction
 lent_in arena w = record { commit = record { position = w.header.start; end = w.header.end; time = w.header.time }; chunks = ready_chunks arena w.ready }

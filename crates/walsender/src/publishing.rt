@@ -1,21 +1,19 @@
 //! What a commit publishes, change by change (PostgreSQL 15, 55.5.3), straight from where the changes lie.
 
-ghost use Rattle.std.specs.Prelude.{◌≡◌, ℕ, ◌+◌, ◌<◌, ◌≤◌, ◌==◌, ◌^◌, ◌++◌, ◌∷◌, [], List, None, FitsSigned, IfOk, IfSome, MatchBool, OnErr, OnOk, Some, drop, length, map, not, vec_len};
+ghost use Rattle.std.specs.Prelude.{◌≡◌, ◌+◌, ◌<◌, ◌≤◌, ◌==◌, ◌^◌, ◌++◌, ◌∷◌, [], None, FitsSigned, IfOk, IfSome, MatchBool, OnErr, OnOk, Some, drop, length, map, not, vec_len};
 ghost use Rattle.std.specs.Int.{w64};
 ghost use Rattle.std.specs.List.{AllByRecursion};
-ghost use Rattle.wal.specs.declared.record.Record.{Record as Logged};
 ghost use Rattle.publication.specs.Selection.{relation};
 ghost use Rattle.pgoutput.specs.Items.{FitsPublished};
-ghost use Rattle.reorder.specs.Chunks.{IsTidy};
 ghost use Rattle.reorder.specs.Ready.{IsReadyIn, ready_entries};
-ghost use Rattle.reorder.specs.Settled.{AreLentIn, after_giving_all_back, ready_chunks};
-ghost use Rattle.reorder.specs.Taking.{HasTaken, ReorderState, readied_changes};
+ghost use Rattle.reorder.specs.Settled.{AreLentIn, ready_chunks};
+ghost use Rattle.reorder.specs.Taking.{ReorderState, readied_changes};
 ghost use Rattle.walsender.specs.Published.{published_changes, published_note, published_with};
 ghost use Rattle.walsender.specs.Sending.{IsHeaderOf, published_by_record};
 ghost use Rattle.walsender.specs.Spelled.{Yields};
 ghost use Rattle.walsender.specs.Waiting.{ready_states, ready_states_with};
 ghost use Rattle.walsender.specs.Lent.{lent_with};
-ghost use Rattle.walsender.specs.Outgoing.{Grows, IsOutgoing, lent_by_step, lent_of, settled_of};
+ghost use Rattle.walsender.specs.Outgoing.{Grows, IsOutgoing, StaysTaken, StaysTidy, lent_by_step, lent_of};
 
 use crate::header::Header;
 use crate::outgoing::Outgoing;
@@ -46,13 +44,10 @@ impl Outgoing {
         ensures fit { OnOk result
             (AllByRecursion (FitsPublished (relation selection.now))
             (published_by_record selection.now start next.now (readied_changes reorder.old step))) }
-        ensures taken { (rs : List Logged) → HasTaken reorder.old rs →
-            HasTaken (settled_of reorder.new self.new) rs }
-        ensures tidy { (count : ℕ) →
-            IsTidy count []
-            (after_giving_all_back reorder.old
-            (ready_states_with (ready_states self.old.waiting.items) step)).strands →
-            IsTidy count [] (settled_of reorder.new self.new).strands }
+        ensures taken { StaysTaken reorder.old reorder.new self.new }
+        ensures tidy { StaysTidy reorder.old
+            (ready_states_with (ready_states self.old.waiting.items) step)
+            reorder.new self.new }
         ensures lent { OnOk result
             (lent_of reorder.new self.new
             ≡ lent_of reorder.old self.old
@@ -139,13 +134,9 @@ impl Outgoing {
             (AllByRecursion (FitsPublished (relation selection.now))
             (published_by_record selection.now start next.now
             (Some (ready_entries reorder.old.strands.pool ready)))) }
-        ensures taken { (rs : List Logged) → HasTaken reorder.old rs →
-            HasTaken (settled_of reorder.new self.new) rs }
-        ensures tidy { (count : ℕ) →
-            IsTidy count []
-            (after_giving_all_back reorder.old
-            (ready_states self.old.waiting.items ++ ready ∷ [])).strands →
-            IsTidy count [] (settled_of reorder.new self.new).strands }
+        ensures taken { StaysTaken reorder.old reorder.new self.new }
+        ensures tidy { StaysTidy reorder.old (ready_states self.old.waiting.items ++ ready ∷ [])
+            reorder.new self.new }
         ensures lent { OnOk result
             (lent_of reorder.new self.new
             ≡ lent_of reorder.old self.old
@@ -176,13 +167,9 @@ impl Outgoing {
         ensures grows { let entries = ready_entries reorder.old.strands.pool ready in
             Grows selection.now clock (published_with selection.now entries header ∷ []) result
             reorder.old reorder.new self.old self.new }
-        ensures taken { (rs : List Logged) → HasTaken reorder.old rs →
-            HasTaken (settled_of reorder.new self.new) rs }
-        ensures tidy { (count : ℕ) →
-            IsTidy count []
-            (after_giving_all_back reorder.old
-            (ready_states self.old.waiting.items ++ ready ∷ [])).strands →
-            IsTidy count [] (settled_of reorder.new self.new).strands }
+        ensures taken { StaysTaken reorder.old reorder.new self.new }
+        ensures tidy { StaysTidy reorder.old (ready_states self.old.waiting.items ++ ready ∷ [])
+            reorder.new self.new }
         ensures lent { OnOk result
             (lent_of reorder.new self.new
             ≡ lent_of reorder.old self.old

@@ -77,6 +77,8 @@ same_connection log action old new (answers.Session fault) acts = absurd acts
 same_connection log action old new (answers.Slot fault) acts = absurd acts
 same_connection log action old new (answers.Publication fault) acts = absurd acts
 same_connection log action old new answers.NoReader acts = absurd acts
+same_connection log action old new answers.Removed acts = absurd acts
+same_connection log action old new (answers.Front place) acts = absurd acts
 same_connection log action old new (answers.Subscriber fault) acts = absurd acts
 
 -- each start goes on having a subscriber

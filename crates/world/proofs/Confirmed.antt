@@ -144,11 +144,13 @@ created_step name created old new (answers.Slot fault) step = ap (λ (w : WorldS
 created_step name created old new (answers.Session fault) step = absurd step
 created_step name created old new (answers.Publication fault) step = absurd step
 created_step name created old new answers.NoReader step = absurd step
+created_step name created old new answers.Removed step = absurd step
+created_step name created old new (answers.Front place) step = absurd step
 created_step name created old new (answers.Sender fault) step = absurd step
 created_step name created old new (answers.Subscriber fault) step = absurd step
 
 started_step : (name c : List ℕ) (slot : Option (List ℕ)) (position : ℕ) (wanted : StartOptions) (old new : WorldState) (a : Answer) → IsStart c slot position wanted old a new → confirmed_at name new.slots ≡ confirmed_at name old.slots
-started_step name c slot position wanted old new answers.Done step = ap (λ (w : WorldState). confirmed_at name w.slots) step.1 ∙ taken_same name slot old.slots
+started_step name c slot position wanted old new answers.Done step = ap (λ (w : WorldState). confirmed_at name w.slots) step.2 ∙ taken_same name slot old.slots
 started_step name c slot position wanted old new (answers.Publication pubs.Memory) step = ap (λ (w : WorldState). confirmed_at name w.slots) step.1
 started_step name c slot position wanted old new (answers.Publication pubs.Unknown) step = ap (λ (w : WorldState). confirmed_at name w.slots) step.1
 started_step name c slot position wanted old new (answers.Publication pubs.ListConflict) step = ap (λ (w : WorldState). confirmed_at name w.slots) step.1
@@ -161,6 +163,8 @@ started_step name c slot position wanted old new (answers.Publication (pubs.BadF
 started_step name c slot position wanted old new (answers.Session fault) step = ap (λ (w : WorldState). confirmed_at name w.slots) step.1
 started_step name c slot position wanted old new (answers.Slot fault) step = ap (λ (w : WorldState). confirmed_at name w.slots) step.1
 started_step name c slot position wanted old new answers.NoReader step = ap (λ (w : WorldState). confirmed_at name w.slots) step.1
+started_step name c slot position wanted old new answers.Removed step = ap (λ (w : WorldState). confirmed_at name w.slots) step.2
+started_step name c slot position wanted old new (answers.Front place) step = ap (λ (w : WorldState). confirmed_at name w.slots) step.1
 started_step name c slot position wanted old new (answers.Sender fault) step = ap (λ (w : WorldState). confirmed_at name w.slots) step.1
 started_step name c slot position wanted old new (answers.Subscriber fault) step = ap (λ (w : WorldState). confirmed_at name w.slots) step.1
 
@@ -195,6 +199,8 @@ step_confirms name old (events.Session t s) a new step = ap (λ (w : WorldState)
 step_confirms name old (events.Note prefix content) a new step = ap (λ (w : WorldState). confirmed_at name w.slots) step.is
 step_confirms name old (events.Connection c s) a new step = connection_confirms name c s old a new step
 step_confirms name old (events.Slot created) a new step = created_step name created old new a step
+step_confirms name old events.Forget a new step = ap (λ (w : WorldState). confirmed_at name w.slots) step.is
+step_confirms name old events.Front a new step = ap (λ (w : WorldState). confirmed_at name w.slots) step.1
 
 pub run_confirms : (name : List ℕ) (old : WorldState) (es : List Event) (given : List Answer) (new : WorldState) (run : IsRun old es given new) → confirmed_at name new.slots ≡ confirmed_through name old es given new run (confirmed_at name old.slots)
 run_confirms name old [] [] new run = ap (λ (w : WorldState). confirmed_at name w.slots) run

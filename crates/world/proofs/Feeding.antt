@@ -145,6 +145,8 @@ answered bytes old new (answers.Session fault) takes = absurd takes
 answered bytes old new (answers.Slot fault) takes = absurd takes
 answered bytes old new (answers.Publication fault) takes = absurd takes
 answered bytes old new answers.NoReader takes = absurd takes
+answered bytes old new answers.Removed takes = absurd takes
+answered bytes old new (answers.Front place) takes = absurd takes
 answered bytes old new (answers.Sender fault) takes = absurd takes
 
 -- the bytes after those that were delivered

@@ -49,6 +49,8 @@ called_step (events.Session t s) old new (Ok a) calls is = record { called = cal
 called_step (events.Note prefix content) old new (Ok a) calls is = record { called = calls; is = is }
 called_step (events.Connection c s) old new (Ok a) calls is = absurd calls
 called_step (events.Slot name) old new (Ok a) calls is = absurd calls
+called_step events.Forget old new (Ok a) calls is = absurd calls
+called_step events.Front old new (Ok a) calls is = absurd calls
 
 -- ---- a connection's line
 
@@ -73,6 +75,8 @@ stays_open log action old new (answers.Session fault) goes acts = absurd acts
 stays_open log action old new (answers.Slot fault) goes acts = absurd acts
 stays_open log action old new (answers.Publication fault) goes acts = absurd acts
 stays_open log action old new answers.NoReader goes acts = absurd acts
+stays_open log action old new answers.Removed goes acts = absurd acts
+stays_open log action old new (answers.Front place) goes acts = absurd acts
 stays_open log action old new (answers.Subscriber fault) goes acts = absurd acts
 
 pub is_closed : (log : List Record) (old new : StartState) (a : Answer) → Acts log actions.Cut old a new → new.is_open ≡ false
@@ -85,6 +89,8 @@ is_closed log old new (answers.Session fault) acts = absurd acts
 is_closed log old new (answers.Slot fault) acts = absurd acts
 is_closed log old new (answers.Publication fault) acts = absurd acts
 is_closed log old new answers.NoReader acts = absurd acts
+is_closed log old new answers.Removed acts = absurd acts
+is_closed log old new (answers.Front place) acts = absurd acts
 is_closed log old new (answers.Subscriber fault) acts = absurd acts
 
 pub open_shown : {L : Type 0} (connection produced : List ℕ) (w : Stage L) → is_open w ≡ true → (state_with connection produced w).is_open ≡ true

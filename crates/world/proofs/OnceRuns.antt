@@ -8,7 +8,7 @@ use Rattle.wal.specs.declared.record.TheConstants.{FIRST_POSITION}
 use Rattle.wal.specs.Log.{IsWellFormedLog, end_of}
 use Rattle.wal.proofs.Laws.{all_when}
 use Rattle.publication.specs.Publications.{PublicationSet}
-use Rattle.txlog.specs.Publishing.{log_end}
+use Rattle.txlog.specs.Publishing.{PublisherState, log_end}
 use Rattle.schedule.specs.declared.start_options.StartOptions.{StartOptions}
 use Rattle.schedule.specs.declared.answer.Answer.{Answer}
 use Rattle.schedule.specs.declared.answer.Answer.TheVariants as answers
@@ -51,6 +51,17 @@ use Rattle.world.proofs.OwnSteps.{begun_by, mine_at, own_before, own_step}
 
 -- ---- A session's line changes nothing of it.
 
+-- nor does what the log gives back
+once_written : (log : List Record) (c s : List ℕ) (wanted : StartOptions) (from : ℕ) (begun : Option (ℕ × List Published)) (old new : WorldState) (publisher : PublisherState) → IsOnce log c s wanted from begun old → new ≡ record old { publisher = publisher } → IsOnce log c s wanted from begun new
+once_written log c s wanted from begun old new publisher once is =
+    let P : WorldState → Type 0 = λ w. IsOnce log c s wanted from begun w in
+    subst P (sym is) (record { confirmed = once.confirmed; slot = once.slot; reaches = once.reaches; within = once.within; others = once.others; alone = once.alone; mine = once.mine })
+
+before_written : (c s : List ℕ) (old new : WorldState) (publisher : PublisherState) → IsBefore c s old → new ≡ record old { publisher = publisher } → IsBefore c s new
+before_written c s old new publisher before is =
+    let P : WorldState → Type 0 = λ w. IsBefore c s w in
+    subst P (sym is) (record { slot = before.slot; others = before.others; started = before.started; known = before.known })
+
 once_called : (log : List Record) (c s : List ℕ) (wanted : StartOptions) (from : ℕ) (begun : Option (ℕ × List Published)) (ask : Option Ask) (old : WorldState) (a : Answer) (new : WorldState) → IsOnce log c s wanted from begun old → Calls ask old a new → IsOnce log c s wanted from begun new
 once_called log c s wanted from begun ask old a new once calls =
     let P : WorldState → Type 0 = λ w. IsOnce log c s wanted from begun w in
@@ -74,6 +85,8 @@ created_only name old (answers.Slot fault) new step = (_, step.1)
 created_only name old (answers.Session fault) new step = absurd step
 created_only name old (answers.Publication fault) new step = absurd step
 created_only name old answers.NoReader new step = absurd step
+created_only name old answers.Removed new step = absurd step
+created_only name old (answers.Front place) new step = absurd step
 created_only name old (answers.Sender fault) new step = absurd step
 created_only name old (answers.Subscriber fault) new step = absurd step
 
@@ -119,6 +132,8 @@ begins_before_step log old (events.Session t step) a new is all = same_starts lo
 begins_before_step log old (events.Note prefix content) a new is all = same_starts log old new (ap (λ (w : WorldState). w.starts) is.is) all
 begins_before_step log old (events.Connection d step) a new is all = begins_before_line log d step old a new is all
 begins_before_step log old (events.Slot name) a new is all = same_starts log old new (ap (λ (w : WorldState). w.starts) (created_only name old a new is).1) all
+begins_before_step log old events.Forget a new is all = same_starts log old new (ap (λ (w : WorldState). w.starts) is.is) all
+begins_before_step log old events.Front a new is all = same_starts log old new (ap (λ (w : WorldState). w.starts) is.1) all
 
 -- before a run the starts that are there have produced no more than at its end
 begins_before : (log : List Record) (old : WorldState) (es : List Event) (given : List Answer) (new : WorldState) → IsRun old es given new → AllByRecursion (BeginsIn log) new.starts → AllByRecursion (BeginsIn log) old.starts
@@ -166,6 +181,8 @@ created_stands log c s wanted (Some from) begun name old (answers.Slot fault) ne
 created_stands log c s wanted known begun name old (answers.Session fault) new stands step = absurd step
 created_stands log c s wanted known begun name old (answers.Publication fault) new stands step = absurd step
 created_stands log c s wanted known begun name old answers.NoReader new stands step = absurd step
+created_stands log c s wanted known begun name old answers.Removed new stands step = absurd step
+created_stands log c s wanted known begun name old (answers.Front place) new stands step = absurd step
 created_stands log c s wanted known begun name old (answers.Sender fault) new stands step = absurd step
 created_stands log c s wanted known begun name old (answers.Subscriber fault) new stands step = absurd step
 
@@ -176,6 +193,8 @@ begun_other c d w (connection_steps.Start slot position options) (answers.Sessio
 begun_other c d w (connection_steps.Start slot position options) (answers.Slot fault) begun other = refl
 begun_other c d w (connection_steps.Start slot position options) (answers.Publication fault) begun other = refl
 begun_other c d w (connection_steps.Start slot position options) answers.NoReader begun other = refl
+begun_other c d w (connection_steps.Start slot position options) answers.Removed begun other = refl
+begun_other c d w (connection_steps.Start slot position options) (answers.Front place) begun other = refl
 begun_other c d w (connection_steps.Start slot position options) (answers.Sender fault) begun other = refl
 begun_other c d w (connection_steps.Start slot position options) (answers.Subscriber fault) begun other = refl
 begun_other c d w (connection_steps.Read max clock) a begun other = refl
@@ -193,6 +212,8 @@ begun_own c w (connection_steps.Start slot position options) (answers.Session fa
 begun_own c w (connection_steps.Start slot position options) (answers.Slot fault) begun = refl
 begun_own c w (connection_steps.Start slot position options) (answers.Publication fault) begun = refl
 begun_own c w (connection_steps.Start slot position options) answers.NoReader begun = refl
+begun_own c w (connection_steps.Start slot position options) answers.Removed begun = refl
+begun_own c w (connection_steps.Start slot position options) (answers.Front place) begun = refl
 begun_own c w (connection_steps.Start slot position options) (answers.Sender fault) begun = refl
 begun_own c w (connection_steps.Start slot position options) (answers.Subscriber fault) begun = refl
 begun_own c w (connection_steps.Read max clock) a begun = refl
@@ -230,6 +251,9 @@ stands_on log c s wanted (Some from) begun old (events.Note prefix content) a ne
     once_called log c s wanted from begun (Option.Some (note_ask prefix content old.publisher old.transactions)) old a new stands is
 stands_on log c s wanted known begun old (events.Connection d step) a new good begins stands fair is = connection_stands log c s wanted known begun d step old a new good begins stands fair is
 stands_on log c s wanted known begun old (events.Slot name) a new good begins stands fair is = created_stands log c s wanted known begun name old a new stands is
+stands_on log c s wanted None begun old events.Forget a new good begins stands fair is = before_written c s old new _ stands is.is
+stands_on log c s wanted (Some from) begun old events.Forget a new good begins stands fair is = once_written log c s wanted from begun old new _ stands is.is
+stands_on log c s wanted known begun old events.Front a new good begins stands fair is = subst (Stands log c s wanted known begun) (sym is.1) stands
 
 -- ---- A run.
 

@@ -125,6 +125,8 @@ acts_keep log action old new (answers.Session fault) acts = absurd acts
 acts_keep log action old new (answers.Slot fault) acts = absurd acts
 acts_keep log action old new (answers.Publication fault) acts = absurd acts
 acts_keep log action old new answers.NoReader acts = absurd acts
+acts_keep log action old new answers.Removed acts = absurd acts
+acts_keep log action old new (answers.Front place) acts = absurd acts
 acts_keep log action old new (answers.Subscriber fault) acts = absurd acts
 
 -- one that isn't c's has become another of its connection and its slot
@@ -149,7 +151,7 @@ where_done answer done other = other
 -- a start is refused and leaves everything, or begins
 pub started_or : {A : Type 0} (P : A → WorldState → Type 0) (done other : A) (c : List ℕ) (slot : Option (List ℕ)) (position : ℕ) (wanted : StartOptions) (old : WorldState) (a : Answer) (new : WorldState) → P other old
     → (start_refusal slot wanted.publications old ≡ None → P done (world_after_start c slot position wanted old)) → IsStart c slot position wanted old a new → P (where_done a done other) new
-started_or P done other c slot position wanted old answers.Done new same begins step = subst (P done) (sym step.1) (begins step.0)
+started_or P done other c slot position wanted old answers.Done new same begins step = subst (P done) (sym step.2) (begins step.0)
 started_or P done other c slot position wanted old (answers.Publication pubs.Memory) new same begins step = subst (P other) (sym step.1) same
 started_or P done other c slot position wanted old (answers.Publication pubs.Unknown) new same begins step = subst (P other) (sym step.1) same
 started_or P done other c slot position wanted old (answers.Publication pubs.ListConflict) new same begins step = subst (P other) (sym step.1) same
@@ -162,6 +164,8 @@ started_or P done other c slot position wanted old (answers.Publication (pubs.Ba
 started_or P done other c slot position wanted old (answers.Session fault) new same begins step = subst (P other) (sym step.1) same
 started_or P done other c slot position wanted old (answers.Slot fault) new same begins step = subst (P other) (sym step.1) same
 started_or P done other c slot position wanted old answers.NoReader new same begins step = subst (P other) (sym step.1) same
+started_or P done other c slot position wanted old answers.Removed new same begins step = subst (P other) (sym step.2) same
+started_or P done other c slot position wanted old (answers.Front place) new same begins step = subst (P other) (sym step.1) same
 started_or P done other c slot position wanted old (answers.Sender fault) new same begins step = subst (P other) (sym step.1) same
 started_or P done other c slot position wanted old (answers.Subscriber fault) new same begins step = subst (P other) (sym step.1) same
 

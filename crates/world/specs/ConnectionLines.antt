@@ -1,5 +1,5 @@
 -- What a connection's line does to its sender.
-use Rattle.std.specs.Prelude.{◌≡◌, ◌==◌, ℕ, List, [], ◌∷◌, ◌++◌, Option, Some, None, if◌then◌else◌}
+use Rattle.std.specs.Prelude.{◌≡◌, ◌<◌, ◌≤◌, ◌==◌, ℕ, List, [], ◌∷◌, ◌++◌, Option, Some, None, if◌then◌else◌}
 use Rattle.publication_config.specs.declared.fault.PubFault.TheVariants as pubs
 use Rattle.publication.specs.Publications.{PublicationSet}
 use Rattle.publication.specs.Choosing.{conflicts, selected_publications, is_unknown}
@@ -13,7 +13,7 @@ use Rattle.slots.specs.declared.fault.SlotFault.TheVariants as slot_faults
 use Rattle.world.specs.Start.{StartState, running_count}
 use Rattle.world.specs.State.{SubscriberState, WorldState, open_start, with_open_start, with_one_for, subscribers_after_reconnect, slot_of_connection}
 use Rattle.slots.specs.Words.{is_held, is_missing, slots_after_letting_go, slots_after_taking, start_from}
-use Rattle.wal.specs.Restart.{restart}
+use Rattle.wal.specs.Restart.{restart, restart_place}
 use Rattle.world.specs.Acting.{Acts, new_start}
 use Rattle.world.specs.declared.limits.TheConstants.{MAX_SENDERS}
 
@@ -63,8 +63,14 @@ world_after_start connection slot position options w = record w {
   subscribers = with_one_for connection slot w.subscribers;
 }
 
--- P7 where memory was refused for what the publications select, and nothing else refuses the start
+-- what the start would read was not given back
+abbrev pub IsKept : Option (List ℕ) → ℕ → WorldState → Type 0
+IsKept slot position w = w.publisher.given ≤ restart_place (start_from slot position w.slots) w.publisher.log
+
+-- P7 where memory was refused for what the publications select, and L9 where records that the start needs were given back; nothing else
+-- refuses the start then
 abbrev pub IsStart : List ℕ → Option (List ℕ) → ℕ → StartOptions → WorldState → Answer → WorldState → Type 0
-IsStart connection slot position options old answers.Done new = (start_refusal slot options.publications old ≡ None) × (new ≡ world_after_start connection slot position options old)
+IsStart connection slot position options old answers.Done new = (start_refusal slot options.publications old ≡ None) × IsKept slot position old × (new ≡ world_after_start connection slot position options old)
+IsStart connection slot position options old answers.Removed new = (start_refusal slot options.publications old ≡ None) × (0 < old.publisher.given) × (new ≡ old)
 IsStart connection slot position options old (answers.Publication pubs.Memory) new = (start_refusal slot options.publications old ≡ None) × (new ≡ old)
 IsStart connection slot position options old answer new = (start_refusal slot options.publications old ≡ Some answer) × (new ≡ old)

@@ -10,6 +10,7 @@ pub mod Confirming
 pub mod Machine
 pub mod Ending
 pub mod Once
+pub mod Forgetting
 pub mod Start
 pub mod Acting
 pub mod Starts

@@ -1,5 +1,5 @@
 -- What a start is judged by, and one that isn't refused, with what its publications select.
-use Rattle.std.specs.Prelude.{◌≡◌, ℕ, not, Bool, List, [], ◌∷◌, ◌++◌, Option, Some, None, if◌then◌else◌}
+use Rattle.std.specs.Prelude.{◌≡◌, ◌<◌, ℕ, not, Bool, List, [], ◌∷◌, ◌++◌, Option, Some, None, if◌then◌else◌}
 use Rattle.publication.specs.Publications.{PublicationSet}
 use Rattle.publication.specs.Choosing.{judgement_of_names}
 use Rattle.slots.specs.declared.fault.SlotFault.TheVariants as slot_faults
@@ -10,7 +10,10 @@ use Rattle.world.specs.declared.starting.StartFacts.{StartFacts}
 use Rattle.world.specs.State.{WorldState, with_one_for}
 use Rattle.slots.specs.Words.{is_held, is_missing, slot_named, slots_after_taking, start_from}
 use Rattle.wal.specs.Restart.{restart}
+use Rattle.schedule.specs.declared.answer.Answer.{Answer}
+use Rattle.schedule.specs.declared.answer.Answer.TheVariants as answers
 use Rattle.world.specs.Acting.{new_start}
+use Rattle.world.specs.ConnectionLines.{IsKept}
 
 -- ---- What it is judged by.
 
@@ -35,3 +38,8 @@ world_after_start_with connection slot position selection w = record w {
   starts = w.starts ++ new_start connection selection (start_from slot position w.slots) (restart (start_from slot position w.slots) w.publisher.log) ∷ [];
   subscribers = with_one_for connection slot w.subscribers;
 }
+
+abbrev pub IsStartWith : List ℕ → Option (List ℕ) → ℕ → PublicationSet → WorldState → Answer → WorldState → Type 0
+IsStartWith connection slot position selection old answers.Done new = IsKept slot position old × (new ≡ world_after_start_with connection slot position selection old)
+IsStartWith connection slot position selection old answers.Removed new = (0 < old.publisher.given) × (new ≡ old)
+IsStartWith connection slot position selection old answer new = ⊥

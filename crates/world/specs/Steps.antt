@@ -5,6 +5,7 @@ use Rattle.schedule.specs.declared.event.Event.TheVariants as events
 use Rattle.schedule.specs.declared.event.ConnectionStep.{ConnectionStep}
 use Rattle.schedule.specs.declared.event.ConnectionStep.TheVariants as steps
 use Rattle.schedule.specs.declared.answer.Answer.{Answer}
+use Rattle.schedule.specs.declared.answer.Answer.TheVariants as answers
 use Rattle.schedule.specs.declared.fault.WorldFault.{WorldFault}
 use Rattle.schedule.specs.declared.fault.WorldFault.TheVariants as worlds
 use Rattle.world.specs.declared.action.Action.TheVariants as actions
@@ -15,6 +16,7 @@ use Rattle.slots.specs.Words.{slot_named}
 use Rattle.replcmd.specs.Words.{is_slot_name}
 use Rattle.world.specs.Slots.{Acknowledges, Creates, PutsBack, has_status, status_with}
 use Rattle.world.specs.Delivering.{Delivers}
+use Rattle.world.specs.Forgetting.{Forgets}
 
 abbrev pub session_state : WorldState → SessionState
 session_state w = record { publisher = w.publisher; transactions = w.transactions }
@@ -42,6 +44,8 @@ IsStep old (events.Session t step) answer new = Calls (ask_of (events.Session t 
 IsStep old (events.Note prefix content) answer new = Calls (ask_of (events.Note prefix content) old.publisher old.transactions) old answer new
 IsStep old (events.Connection c step) answer new = IsStepAt c step old answer new
 IsStep old (events.Slot name) answer new = Creates name old answer new
+IsStep old events.Forget answer new = Forgets old answer new
+IsStep old events.Front answer new = (answer ≡ answers.Front old.publisher.given) × (new ≡ old)
 
 -- A line that can't happen now: a start where the connection has a sender already, an acknowledgement where no status waits, any
 -- other where the connection has no sender.
@@ -56,6 +60,8 @@ is_bad (events.Session t step) w = not (is_some (ask_of (events.Session t step) 
 is_bad (events.Note prefix content) w = false
 is_bad (events.Connection c step) w = is_bad_at c step w
 is_bad (events.Slot name) w = not (is_slot_name name)
+is_bad events.Forget w = false
+is_bad events.Front w = false
 
 abbrev pub is_read_at : ConnectionStep → Bool
 is_read_at (steps.Start slot position options) = true
@@ -65,6 +71,7 @@ is_read_at step = false
 -- an event that reads the log, or looks where to begin in it, and so may be refused an entry: V3
 abbrev pub is_read : Event → Bool
 is_read (events.Connection c step) = is_read_at step
+is_read events.Forget = true
 is_read event = false
 
 abbrev pub takes_memory_at : ConnectionStep → WorldState → Bool

@@ -9,6 +9,7 @@
 #![tactic(auto)]
 
 mod action;
+mod forgetting;
 mod limits;
 mod machine;
 mod opening;

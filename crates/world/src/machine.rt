@@ -41,6 +41,8 @@ pub(crate) struct Machine<L: LogName + SlotName> {
     pub(crate) starts: Vec<Start<L>>,
     pub(crate) opened: Vec<usize>,
     pub(crate) readers: Vec<LogReader<L>>,
+    /// Finds what of the log can be given back.
+    pub(crate) counter: LogReader<L>,
     pub(crate) subscribers: Vec<Subscriber>,
     /// The names of their connections, in the same order.
     pub(crate) names: IndexSet<String>,
@@ -70,7 +72,7 @@ impl<L: LogName + SlotName> Machine<L> {
         };
         let (catalog, publications, server) = config.into_parts();
         match publisher_of(rt, alloc, history, catalog, server.records) {
-            Ok((publisher, readers)) => {
+            Ok((publisher, readers, counter)) => {
                 return Ok(Machine {
                     publications,
                     publisher,
@@ -79,6 +81,7 @@ impl<L: LogName + SlotName> Machine<L> {
                     starts: Vec::new(alloc),
                     opened: Vec::new(alloc),
                     readers,
+                    counter,
                     subscribers: Vec::new(alloc),
                     names: IndexSet::new(alloc),
                     chunks: server.chunks as u32,
@@ -103,6 +106,7 @@ impl<L: LogName + SlotName> Machine<L> {
             starts,
             opened: _,
             readers,
+            counter,
             subscribers: _,
             names: _,
             chunks: _,
@@ -110,6 +114,7 @@ impl<L: LogName + SlotName> Machine<L> {
         slots.close();
         drop(starts);
         drop(readers);
+        drop(counter);
         sessions.leave_all(&publisher);
         publisher.close(rt);
     }
@@ -124,6 +129,7 @@ impl<L: LogName + SlotName> Machine<L> {
             Event::Note(_, _) => false,
             Event::Connection(name, step) => self.is_bad_at(name, step),
             Event::Slot(name) => !is_slot_name(name.as_str()),
+            Event::Forget | Event::Front => false,
         }
     }
 
@@ -161,6 +167,8 @@ impl<L: LogName + SlotName> Machine<L> {
             Event::Session(_, _) | Event::Note(_, _) => self.call(rt, event),
             Event::Connection(name, step) => self.step_at(name, step),
             Event::Slot(name) => Ok(self.create(name)),
+            Event::Forget => self.forget(),
+            Event::Front => Ok(self.front()),
         }
     }
 
@@ -297,22 +305,26 @@ impl<L: LogName + SlotName> Machine<L> {
     }
 }
 
-/// A publisher for this many records, and the readers of its log.
+/// A publisher for this many records, the readers of its log, and one more, which serves no sender.
 fn publisher_of<L: LogName, R: Wait>(
     rt: &R,
     alloc: Global,
     history: shared_log::Opened,
     catalog: Catalog,
     records: usize,
-) -> Result<(Publisher<L>, Vec<LogReader<L>>), SessionFault>
+) -> Result<(Publisher<L>, Vec<LogReader<L>>, LogReader<L>), SessionFault>
     requires name { history.seen.book ≡ L.book }
     requires some { 1 ≤ records }
     requires few { records ≤ MAX_RECORDS }
     ensures ok { IfOk result (λ made. made.0 ≡ new_publisher catalog records) }
     ensures readers { IfOk result (λ made. vec_len made.1 ≡ MAX_SENDERS) }
 {
-    let opened = Opened::over(alloc, history, catalog, records, MAX_SENDERS)?;
-    Publisher::open(rt, opened)
+    let opened = Opened::over(alloc, history, catalog, records, MAX_SENDERS + 1)?;
+    let (publisher, mut readers) = Publisher::open(rt, opened)?;
+    match readers.pop() {
+        Some(counter) => Ok((publisher, readers, counter)),
+        None => unreachable!(),
+    }
 }
 
 fn act_at<L: LogName>(

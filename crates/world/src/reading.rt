@@ -1,11 +1,12 @@
 //! What a start reads of the publisher's log.
 
-ghost use Rattle.std.specs.Prelude.{◌≡◌, ◌-◌, ◌≢◌, Err, List, ℕ, IfErr, IfOk, OnErr, length};
+ghost use Rattle.std.specs.Prelude.{◌≡◌, ◌-◌, ◌≢◌, Err, List, ℕ, IfErr, IfOk, IfSome, OnErr, OnOk, length};
 ghost use mathlib.Core.List.{IsPrefix};
 ghost use Rattle.shared_log.specs.Fronts.{settled_records};
 ghost use Rattle.shared_log.specs.Readers.{HasSeen, seen_of};
+ghost use Rattle.txlog.specs.Giving.{kept_place};
 ghost use Rattle.txlog.specs.Invariants.{IsPublisher};
-ghost use Rattle.wal.specs.Restart.{restart};
+ghost use Rattle.wal.specs.Restart.{restart, restart_place};
 ghost use Rattle.walsender.specs.Serving.{BeginsAt, Reads, Serves, next_records};
 
 use shared_log::{LogName, LogReader, ReadFault};
@@ -23,12 +24,29 @@ pub fn resume<L: LogName>(
 ) -> Result<u64, ReadFault>
     ensures same { publisher.new ≡ publisher.old }
     ensures first { IfOk result (λ first. first ≡ restart start publisher.old.log) }
+    ensures place { OnOk result (reader.new.place ≡ restart_place start publisher.old.log) }
     ensures begins { IfOk result
         (λ first. BeginsAt publisher.old.log start first reader.new.place) }
     ensures entry { result ≢ Err ReadFault.Memory }
 {
     let count = publisher.tell(reader);
     reader.resume(start, count)
+}
+
+/// The place from which the log is kept for a slot that is confirmed at this position. None where the log doesn't let the reader in, and
+/// where what such a slot needs was given back.
+pub(crate) fn kept_place<L: LogName>(
+    publisher: &mut Publisher<L>,
+    reader: &mut LogReader<L>,
+    confirmed: u64,
+) -> Option<usize>
+    ensures same { publisher.new ≡ publisher.old }
+    ensures place { IfSome result (λ place. place ≡ kept_place confirmed publisher.old.log) }
+{
+    match resume(publisher, reader, confirmed) {
+        Ok(_) => Some(reader.place().saturating_sub(1)),
+        Err(_) => None,
+    }
 }
 
 /// Reads up to `max` records of the log.

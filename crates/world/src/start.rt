@@ -82,6 +82,13 @@ impl<L: LogName> Start<L> {
         }
     }
 
+    /// Whether it has a sender.
+    pub(crate) fn is_open(&self) -> bool
+        ensures { result ≡ (start_state self.now).is_open }
+    {
+        matches!(&self.stage, Stage::Open(_))
+    }
+
     /// Whether this is an open start of the connection.
     pub fn is_open_for(&self, connection: &Text) -> bool
         ensures { result ≡ is_open_for connection.now (start_state self.now) }
@@ -228,7 +235,7 @@ fn fault_of(fault: ReadFault) -> WorldFault
     ensures memory { result ≡ WorldFault.Memory → fault ≡ ReadFault.Memory }
 {
     match fault {
-        // No line gives records back, so nobody meets `Removed`.
+        // What an open start reads is not given back, so nobody meets `Removed`.
         ReadFault::NoEntry | ReadFault::Stale | ReadFault::Removed => WorldFault::NoEntry,
         ReadFault::Memory => WorldFault::Memory,
     }

@@ -1,12 +1,12 @@
 //! The start of a sender: what it is judged by, what it takes, and where it begins to read.
 
-ghost use Rattle.std.specs.Prelude.{◌≡◌, ◌≢◌, ◌<◌, ◌++◌, ◌∷◌, [], None, Err, IfOk, IsNone, IsSome, OnErr, OnOk, false, vec_len};
-ghost use Rattle.wal.specs.Restart.{restart};
+ghost use Rattle.std.specs.Prelude.{◌≡◌, ◌≢◌, ◌<◌, ◌≤◌, ◌++◌, ◌∷◌, [], None, Err, IfErr, IfOk, IsNone, IsSome, OnErr, OnOk, false, vec_len};
+ghost use Rattle.wal.specs.Restart.{restart, restart_place};
 ghost use Rattle.slots.specs.Words.{is_held, is_missing, slot_named, start_from};
 ghost use Rattle.world.specs.Acting.{new_start};
 ghost use Rattle.world.specs.State.{new_subscriber, open_start, with_one_for};
 ghost use Rattle.world.specs.ConnectionLines.{IsStart, start_refusal};
-ghost use Rattle.world.specs.Starting.{Told, world_after_start_with};
+ghost use Rattle.world.specs.Starting.{IsStartWith, Told, world_after_start_with};
 ghost use Rattle.world.specs.Machine.{HasRoom, IsMachine, IsResumed, subscriber_state, world_of};
 
 use crate::machine::Machine;
@@ -17,7 +17,7 @@ use chgarena::Arena;
 use pqformat::Text;
 use publication::{PubFault, Publications, Selection};
 use schedule::{Answer, StartOptions, WorldFault};
-use shared_log::LogName;
+use shared_log::{LogName, ReadFault};
 use slots::{HeldSlots, SlotFault, SlotName, is_held, is_missing, slot_named, start_from, take};
 use std::alloc::{AllocError, Global};
 use walsender::{ClaimFault, StartBackend, StartFault, begin};
@@ -83,7 +83,7 @@ impl<L: LogName + SlotName> Machine<L> {
         }
     }
 
-    /// Starts a sender of this selection, which nothing but want of memory refuses.
+    /// Starts a sender of this selection. L9 where the log gave back what it would read; nothing else but want of memory refuses it.
     fn start_with(
         &mut self,
         alloc: Global,
@@ -97,10 +97,8 @@ impl<L: LogName + SlotName> Machine<L> {
         requires free { is_held (slot_named slot.now) (world_of self.old).slots ≡ false }
         requires reader { 0 < vec_len self.old.readers }
         ensures done { IfOk result
-            (λ a. (a ≡ Answer.Done)
-            × (world_of self.new
-            ≡ world_after_start_with name.now (slot_named slot.now) position selection
-            (world_of self.old))) }
+            (λ a. IsStartWith name.now (slot_named slot.now) position selection
+            (world_of self.old) a (world_of self.new)) }
         ensures happens { result ≢ Err WorldFault.BadEvent }
         ensures err { OnErr result (world_of self.new ≡ world_of self.old) }
         ensures machine { IsMachine self.new }
@@ -117,7 +115,7 @@ impl<L: LogName + SlotName> Machine<L> {
                 // Let go by one call each, which keeps the proof short.
                 drop(means);
                 drop(selection);
-                return Err(fault);
+                return self.unresumed(fault);
             }
         };
         let StartMeans {
@@ -145,7 +143,7 @@ impl<L: LogName + SlotName> Machine<L> {
     }
 
     /// Puts the reader that the next start takes where it begins to read for this start position, and answers the position there.
-    fn resume(&mut self, start: u64) -> Result<u64, WorldFault>
+    fn resume(&mut self, start: u64) -> Result<u64, ReadFault>
         requires reader { 0 < vec_len self.old.readers }
         ensures same { world_of self.new ≡ world_of self.old }
         ensures first { IfOk result
@@ -153,18 +151,35 @@ impl<L: LogName + SlotName> Machine<L> {
         ensures resumed { IfOk result (λ first. IsResumed start first self.new) }
         ensures room { HasRoom self.old → HasRoom self.new }
         ensures readers { vec_len self.new.readers ≡ vec_len self.old.readers }
-        ensures happens { result ≢ Err WorldFault.BadEvent }
-        ensures memory { result ≢ Err WorldFault.Memory }
+        ensures kept { OnOk result
+            ((world_of self.old).publisher.given
+            ≤ restart_place start (world_of self.old).publisher.log) }
         ensures machine { IsMachine self.old → IsMachine self.new }
     {
         let Some(mut reader) = self.readers.pop() else {
             unreachable!();
         };
         let resumed = resume(&mut self.publisher, &mut reader, start);
+        let place = reader.place();
         self.readers.push_reserved(reader);
-        match resumed {
-            Ok(first) => Ok(first),
-            Err(_) => Err(WorldFault::NoEntry),
+        let first = resumed?;
+        let given = self.publisher.given();
+        // A position in the midst of the last record that was given back may need that.
+        if place < given || (0 < given && place == given && start < first) {
+            return Err(ReadFault::Removed);
+        }
+        Ok(first)
+    }
+
+    /// What a start answers that could not be resumed.
+    fn unresumed(&self, fault: ReadFault) -> Result<Answer, WorldFault>
+        ensures removed { IfOk result
+            (λ a. (a ≡ Answer.Removed) × (0 < (world_of self.now).publisher.given)) }
+        ensures entry { IfErr result (λ fault. fault ≡ WorldFault.NoEntry) }
+    {
+        match fault {
+            ReadFault::Removed if 0 < self.publisher.given() => Ok(Answer::Removed),
+            _ => Err(WorldFault::NoEntry),
         }
     }
 

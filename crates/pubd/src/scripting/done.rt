@@ -51,7 +51,7 @@ where
     }
 }
 
-/// Commits the transaction of this name at the time of the clock, or at 0 where it can't be read.
+/// Commits the transaction of this name at the time of the clock, or at 0 where it can't be read. `AllocError` as of `do_event`.
 pub(crate) fn commit_now<L: LogName + SlotName, R: Wait + Clock>(
     rt: &R,
     hub: &Hub<L>,
@@ -63,7 +63,8 @@ pub(crate) fn commit_now<L: LogName + SlotName, R: Wait + Clock>(
     do_event(rt, hub, sessions, &event)
 }
 
-/// Does a session's line under the publisher's lock, once there is room for it where there can be, and tells streams of its commit or its note.
+/// Does a session's line under the publisher's lock, once there is room for it where there can be, and tells streams of its commit
+/// or its note. `AllocError` where memory to keep its transaction is refused (V2).
 pub(crate) fn do_event<L: LogName + SlotName, R: Wait + Clock>(
     rt: &R,
     hub: &Hub<L>,

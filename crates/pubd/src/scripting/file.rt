@@ -16,7 +16,8 @@ pub struct Script {
 /// Stands in the place of a script's path for the standard input.
 pub const STANDARD_INPUT: &str = "-";
 
-/// The scripts at these paths, in order, but for the standard input.
+/// The scripts at these paths, in order, but for the standard input. `Read` where one can't be read or is no text, `BadLine` at the
+/// first line that is none, or `Memory`.
 pub fn scripts_at(rt: &HostRuntime, paths: &[&str]) -> Result<Vec<Script>, ScriptFileFault> {
     let mut scripts = Vec::with_capacity(rt.alloc(), paths.len())?;
     read_all(rt, paths, &mut scripts)?;

@@ -59,7 +59,8 @@ struct Kept {
 /// `ok 0/1000050`; or the code of its refusal and words, V1 where it is no such line. Empty lines and those that begin with `#` are
 /// passed over. While a line waits, those after it that steer are done as they come, and `end` and, where the server ends with
 /// its input, the end of the input end the wait. `end` is answered by `ok`, and no line is done after it. Transactions that are in
-/// progress then, or where the input ends, are left as they are, so that nothing of them commits.
+/// progress then, or where the input ends, are left as they are, so that nothing of them commits. So are they where no more lines
+/// can be read (`Lines`) or no answer can be written (`Answers`), or memory is refused (`Memory`, V2).
 pub fn run_input<L: LogName + SlotName, R: Wait + Clock, O: Print>(
     driven: &Driven<'_, L, R>,
     output: &O,

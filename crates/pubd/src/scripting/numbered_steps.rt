@@ -26,8 +26,8 @@ pub struct StepFault {
 }
 
 impl Steps {
-    /// The steps of all lines. Empty lines and those that begin with `#` are passed over, but counted. The first line that is no
-    /// step is refused.
+    /// The steps of all lines. Empty lines and those that begin with `#` are passed over, but counted. The fault is of the first
+    /// line that is no step (`Bad`), or for which memory is refused (`Memory`).
     pub fn parse(alloc: Global, text: &str) -> Result<Steps, StepFault> {
         let mut steps = Steps {
             steps: Vec::new(alloc),

@@ -57,7 +57,7 @@ pub enum Until {
 const STREAM: &str = "stream";
 
 impl Step {
-    /// The step that a line spells, without its line end.
+    /// The step that a line spells, without its line end. `Bad` (V1) where it spells none, or `Memory`.
     pub fn parse(alloc: Global, line: &str) -> Result<Step, LineRefusal> {
         let (word, rest) = line.split_once(' ').unwrap_or((line, ""));
         match word {
@@ -88,7 +88,7 @@ fn session(alloc: Global, line: &str) -> Result<Step, LineRefusal> {
 fn is_of_session(event: &Event) -> bool {
     match event {
         Event::Session(_, _) | Event::Note(_, _) => true,
-        Event::Connection(_, _) | Event::Slot(_) => false,
+        Event::Connection(_, _) | Event::Slot(_) | Event::Forget | Event::Front => false,
     }
 }
 

@@ -29,7 +29,8 @@ pub enum ScriptEnd {
 ///
 /// For a line that is refused, the script's path, the line's number, and code and words are told, as in `load 7 S3 a row with this
 /// key exists`, and the script goes on; for one that steered a stream or has waited for it the same with `ok`. Transactions that
-/// are in progress at its end are left as they are, so that nothing of them commits.
+/// are in progress at its end are left as they are, so that nothing of them commits. So are they where memory is refused (`Memory`,
+/// V2).
 pub fn run_steps<L: LogName + SlotName, R: Wait + Clock>(
     rt: &R,
     hub: &Hub<L>,
@@ -65,7 +66,7 @@ fn do_steps<L: LogName + SlotName, R: Wait + Clock>(
     Ok(ScriptEnd::LastLine)
 }
 
-/// Does a step, and waits for what it awaits.
+/// Does a step, and waits for what it awaits. `AllocError` where memory is refused (V2).
 pub(crate) fn do_step<L: LogName + SlotName, R: Wait + Clock>(
     rt: &R,
     hub: &Hub<L>,

@@ -13,7 +13,7 @@ use Rattle.txlog.proofs.publisher.Publisher.message.Goals as goal
 
 pub write-requires : goal.write-requires
 write-requires g c =
-    let s : PublisherState = record { tables = c.self.inside.store.tables; capacity = c.self.inside.capacity; log = c.self.inside.log.records; given = c.self.inside.log.given; next_xid = c.self.inside.next_xid; live = c.self.inside.live } in
+    let s : PublisherState = record { tables = c.self.inside.store.tables; capacity = c.self.inside.capacity; log = c.self.inside.log.records; given = c.self.inside.log.given; next_xid = c.self.inside.next_xid; live = c.self.inside.live; snapshots = c.self.inside.snapshots } in
     let at = c.in_ok-at.ensures in
     let short = short_of_fits s.tables c.in-Ok.change c.in-Ok.ensures.fits in
     record {
@@ -26,7 +26,7 @@ write-requires g c =
 
 pub invariant_of-self : goal.invariant_of-self
 invariant_of-self g c =
-    let s : PublisherState = record { tables = c.self.inside.store.tables; capacity = c.self.inside.capacity; log = c.self.inside.log.records; given = c.self.inside.log.given; next_xid = c.self.inside.next_xid; live = c.self.inside.live } in
+    let s : PublisherState = record { tables = c.self.inside.store.tables; capacity = c.self.inside.capacity; log = c.self.inside.log.records; given = c.self.inside.log.given; next_xid = c.self.inside.next_xid; live = c.self.inside.live; snapshots = c.self.inside.snapshots } in
     let at = c.in_ok-at.ensures in
     let w = c.write.ensures in
     rw c.write.ensures.given
@@ -39,12 +39,12 @@ returns-in-Ok-clause-publisher g c = (invariant_of-self g c).publisher
 
 pub returns-in-Ok-clause-refused : goal.returns-in-Ok-clause-refused
 returns-in-Ok-clause-refused g c =
-    let s : PublisherState = record { tables = c.self.inside.store.tables; capacity = c.self.inside.capacity; log = c.self.inside.log.records; given = c.self.inside.log.given; next_xid = c.self.inside.next_xid; live = c.self.inside.live } in
+    let s : PublisherState = record { tables = c.self.inside.store.tables; capacity = c.self.inside.capacity; log = c.self.inside.log.records; given = c.self.inside.log.given; next_xid = c.self.inside.next_xid; live = c.self.inside.live; snapshots = c.self.inside.snapshots } in
     ok_refused (λ p x. history.message_fault c.args.prefix.now c.args.content.now) s c.args.self.now c.args.tx.now c.in_ok-at.at c.write.result c.self.view_is
     c.in_ok-at.ensures.live c.in_ok-at.ensures.room c.in-Ok.ensures.refused c.write.ensures.room c.write.ensures.refused
 
 pub returns-in-Err-clause-refused : goal.returns-in-Err-clause-refused
 returns-in-Err-clause-refused g c =
-    let s : PublisherState = record { tables = c.self.inside.store.tables; capacity = c.self.inside.capacity; log = c.self.inside.log.records; given = c.self.inside.log.given; next_xid = c.self.inside.next_xid; live = c.self.inside.live } in
+    let s : PublisherState = record { tables = c.self.inside.store.tables; capacity = c.self.inside.capacity; log = c.self.inside.log.records; given = c.self.inside.log.given; next_xid = c.self.inside.next_xid; live = c.self.inside.live; snapshots = c.self.inside.snapshots } in
     err_refused (λ p x. history.message_fault c.args.prefix.now c.args.content.now) s c.args.self.now c.args.tx.now c.in_ok-at.at c.in-Err.fault c.refusal.result c.self.view_is
     c.in_ok-at.ensures.live c.in_ok-at.ensures.room c.in-Err.ensures.refused c.refusal.ensures

@@ -9,14 +9,14 @@ use Rattle.txlog.proofs.publisher.Publisher.note.Goals as goal
 
 pub push-requires-clause-good : goal.push-requires-clause-good
 push-requires-clause-good g c =
-    let s : PublisherState = record { tables = c.self.inside.store.tables; capacity = c.self.inside.capacity; log = c.self.inside.log.records; given = c.self.inside.log.given; next_xid = c.self.inside.next_xid; live = c.self.inside.live } in
+    let s : PublisherState = record { tables = c.self.inside.store.tables; capacity = c.self.inside.capacity; log = c.self.inside.log.records; given = c.self.inside.log.given; next_xid = c.self.inside.next_xid; live = c.self.inside.live; snapshots = c.self.inside.snapshots } in
     let free : 0 < room s = omega (arith, c.if-room-eq0.false, c.room-room.ensures, ap room c.self.view_is) in
     let fits = c.in-Ok.ensures.fits in
     (noted_kept c.self.inside.store s (changes.Message c.in-Ok.field-0) c.self.invariant free tt fits (short_message c.in-Ok.field-0 fits)).publisher.log.good
 
 pub invariant_of-self-in-Ok-2 : goal.invariant_of-self-in-Ok-2
 invariant_of-self-in-Ok-2 g c =
-    let s : PublisherState = record { tables = c.self.inside.store.tables; capacity = c.self.inside.capacity; log = c.self.inside.log.records; given = c.self.inside.log.given; next_xid = c.self.inside.next_xid; live = c.self.inside.live } in
+    let s : PublisherState = record { tables = c.self.inside.store.tables; capacity = c.self.inside.capacity; log = c.self.inside.log.records; given = c.self.inside.log.given; next_xid = c.self.inside.next_xid; live = c.self.inside.live; snapshots = c.self.inside.snapshots } in
     let free : 0 < room s = omega (arith, c.if-room-eq0.false, c.room-room.ensures, ap room c.self.view_is) in
     let fits = c.in-Ok.ensures.fits in
     rw c.push.ensures.given

@@ -10,7 +10,7 @@ use Rattle.txlog.proofs.publisher.Publisher.update.Goals as goal
 
 pub write-requires : goal.write-requires
 write-requires g c =
-    let s : PublisherState = record { tables = c.self.inside.store.tables; capacity = c.self.inside.capacity; log = c.self.inside.log.records; given = c.self.inside.log.given; next_xid = c.self.inside.next_xid; live = c.self.inside.live } in
+    let s : PublisherState = record { tables = c.self.inside.store.tables; capacity = c.self.inside.capacity; log = c.self.inside.log.records; given = c.self.inside.log.given; next_xid = c.self.inside.next_xid; live = c.self.inside.live; snapshots = c.self.inside.snapshots } in
     let fits = c.in-Ok.ensures.fits (history_of s.log) c.self.invariant.rows in
     let made_so = c.in-Ok.ensures.change (history_of s.log) c.self.invariant.rows in
     let at = c.in_ok-at.ensures in
@@ -25,7 +25,7 @@ write-requires g c =
 
 pub invariant_of-self : goal.invariant_of-self
 invariant_of-self g c =
-    let s : PublisherState = record { tables = c.self.inside.store.tables; capacity = c.self.inside.capacity; log = c.self.inside.log.records; given = c.self.inside.log.given; next_xid = c.self.inside.next_xid; live = c.self.inside.live } in
+    let s : PublisherState = record { tables = c.self.inside.store.tables; capacity = c.self.inside.capacity; log = c.self.inside.log.records; given = c.self.inside.log.given; next_xid = c.self.inside.next_xid; live = c.self.inside.live; snapshots = c.self.inside.snapshots } in
     let fits = c.in-Ok.ensures.fits (history_of s.log) c.self.invariant.rows in
     let made_so = c.in-Ok.ensures.change (history_of s.log) c.self.invariant.rows in
     let at = c.in_ok-at.ensures in
@@ -40,12 +40,12 @@ returns-in-Ok-clause-publisher g c = (invariant_of-self g c).publisher
 
 pub returns-in-Ok-clause-refused : goal.returns-in-Ok-clause-refused
 returns-in-Ok-clause-refused g c =
-    let s : PublisherState = record { tables = c.self.inside.store.tables; capacity = c.self.inside.capacity; log = c.self.inside.log.records; given = c.self.inside.log.given; next_xid = c.self.inside.next_xid; live = c.self.inside.live } in
+    let s : PublisherState = record { tables = c.self.inside.store.tables; capacity = c.self.inside.capacity; log = c.self.inside.log.records; given = c.self.inside.log.given; next_xid = c.self.inside.next_xid; live = c.self.inside.live; snapshots = c.self.inside.snapshots } in
     ok_refused (λ p x. history.update_refusal p.tables (history_of p.log) x (record { oid = c.args.oid; values = c.args.key.now }) c.args.row) s c.args.self.now c.args.tx.now c.in_ok-at.at c.write.result c.self.view_is
     c.in_ok-at.ensures.live c.in_ok-at.ensures.room (c.in-Ok.ensures.refused (history_of s.log) c.self.invariant.rows) c.write.ensures.room c.write.ensures.refused
 
 pub returns-in-Err-clause-refused : goal.returns-in-Err-clause-refused
 returns-in-Err-clause-refused g c =
-    let s : PublisherState = record { tables = c.self.inside.store.tables; capacity = c.self.inside.capacity; log = c.self.inside.log.records; given = c.self.inside.log.given; next_xid = c.self.inside.next_xid; live = c.self.inside.live } in
+    let s : PublisherState = record { tables = c.self.inside.store.tables; capacity = c.self.inside.capacity; log = c.self.inside.log.records; given = c.self.inside.log.given; next_xid = c.self.inside.next_xid; live = c.self.inside.live; snapshots = c.self.inside.snapshots } in
     err_refused (λ p x. history.update_refusal p.tables (history_of p.log) x (record { oid = c.args.oid; values = c.args.key.now }) c.args.row) s c.args.self.now c.args.tx.now c.in_ok-at.at c.in-Err.fault c.refusal.result c.self.view_is
     c.in_ok-at.ensures.live c.in_ok-at.ensures.room (c.in-Err.ensures.refused (history_of s.log) c.self.invariant.rows) c.refusal.ensures

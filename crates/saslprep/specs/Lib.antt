@@ -1,2 +1,0 @@
-pub mod CodeSets
-pub mod Refusing
