@@ -3,6 +3,8 @@ import pathlib
 import re
 import subprocess
 
+from driven import Driven
+
 HERE = pathlib.Path(__file__).resolve().parent
 CONFIGURATION = HERE.parent.parent / "examples" / "clients" / "server.toml"
 USER, PASSWORD = "u", "soaked"
@@ -11,7 +13,7 @@ IDLE, KEEP = "idle", 40_000
 SECONDS = 60
 
 
-class Serving:
+class Serving(Driven):
     """A pubd that asks for passwords, and gives a slot up that holds too much."""
 
     def __init__(self, pubd, room):
@@ -33,9 +35,6 @@ class Serving:
     def port_of(line):
         return int(re.search(r":(\d+)$", line.strip())[1])
 
-    def __enter__(self):
-        return self
-
     def __exit__(self, *raised):
         self.process.kill()
         self.process.wait()
@@ -43,21 +42,6 @@ class Serving:
 
     def conninfo(self, more=""):
         return f"host=127.0.0.1 port={self.port} user={USER} password={PASSWORD} dbname=app{more}"
-
-    def tell(self, *lines):
-        """The answers to these lines."""
-        for line in lines:
-            self.process.stdin.write(line + "\n")
-        self.process.stdin.flush()
-        return [self.process.stdout.readline().strip() for _ in lines]
-
-    def do(self, *lines):
-        """Of lines that none may refuse."""
-        answers = self.tell(*lines)
-        refused = [f"{line}: {answer}" for line, answer in zip(lines, answers) if answer.split()[:1] != ["ok"]]
-        if refused:
-            raise AssertionError("; ".join(refused))
-        return answers[-1].removeprefix("ok").strip()
 
     def commit(self, lines):
         end = self.do(*lines)
@@ -74,13 +58,3 @@ class Serving:
         for each in command:
             words = ["psql", "-XAtq", self.conninfo(" replication=database"), "-c", each]
             subprocess.run(words, capture_output=True, timeout=SECONDS, check=False)
-
-    def end(self):
-        """What is wrong with its end."""
-        self.process.stdin.write("end\n")
-        self.process.stdin.close()
-        try:
-            status = self.process.wait(timeout=SECONDS)
-        except subprocess.TimeoutExpired:
-            return ["pubd doesn't end"]
-        return [f"pubd ended with status {status}"] * bool(status)
