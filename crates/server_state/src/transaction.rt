@@ -9,8 +9,11 @@ ghost use Rattle.txlog.specs.Rows.{rows_of};
 use crate::ended::ended;
 use crate::fault::EndFault;
 use crate::server_state::ServerState;
+use catalog::Catalog;
+use clocks::clock_now;
 use shared_log::LogName;
 use slots::SlotName;
+use std::alloc::Global;
 use std::marker::Model;
 use std::sync::{MutexGuard, Wait};
 use std::time::Clock;
@@ -73,8 +76,19 @@ impl<L: LogName + SlotName> ServerState<L> {
 }
 
 impl<'h, L: LogName + SlotName, R: Wait> Transaction<'h, L, R> {
+    /// The tables that it may change.
+    pub(crate) fn catalog(&self) -> &Catalog
+        ensures { result.now ≡ self.now.publisher.tables }
+    {
+        self.publisher.catalog()
+    }
+
+    pub(crate) fn alloc(&self) -> Global {
+        self.server_state.alloc
+    }
+
     /// The row with this key, with what this transaction has done. The key's values stand in table order.
-    pub fn get(&self, table: u32, key: &Row) -> Option<&Row>
+    pub(crate) fn row(&self, table: u32, key: &Row) -> Option<&Row>
         ensures { let at = self.now.publisher in
             option_copied result
             ≡ rows_of at.tables at.log (record { oid = table; values = key.now }) }
@@ -82,7 +96,7 @@ impl<'h, L: LogName + SlotName, R: Wait> Transaction<'h, L, R> {
         self.publisher.get(table, key)
     }
 
-    pub fn insert(&mut self, table: u32, row: Row) -> Result<(), SessionFault>
+    pub(crate) fn insert_row(&mut self, table: u32, row: Row) -> Result<(), SessionFault>
         ensures ok { OnOk result
             (self.new ≡ writes (λ xid. after_change xid (Change.Insert table row)) self.old) }
         ensures err { OnErr result (self.new ≡ self.old) }
@@ -93,7 +107,7 @@ impl<'h, L: LogName + SlotName, R: Wait> Transaction<'h, L, R> {
     }
 
     /// The row with this key becomes this one.
-    pub fn update(&mut self, table: u32, key: &Row, row: Row) -> Result<(), SessionFault>
+    pub(crate) fn update_row(&mut self, table: u32, key: &Row, row: Row) -> Result<(), SessionFault>
         ensures ok { OnOk result
             (self.new ≡ writes
             (λ xid. after_update xid (record { oid = table; values = key.now }) row) self.old) }
@@ -106,7 +120,7 @@ impl<'h, L: LogName + SlotName, R: Wait> Transaction<'h, L, R> {
             .update(self.rt, &mut self.tx, table, key, row)
     }
 
-    pub fn delete(&mut self, table: u32, key: &Row) -> Result<(), SessionFault>
+    pub(crate) fn delete_row(&mut self, table: u32, key: &Row) -> Result<(), SessionFault>
         ensures ok { OnOk result
             (self.new ≡ writes
             (λ xid. after_delete xid (record { oid = table; values = key.now })) self.old) }
@@ -119,7 +133,7 @@ impl<'h, L: LogName + SlotName, R: Wait> Transaction<'h, L, R> {
     }
 
     /// Empties these tables.
-    pub fn truncate(&mut self, tables: &[u32]) -> Result<(), SessionFault>
+    pub(crate) fn truncate_tables(&mut self, tables: &[u32]) -> Result<(), SessionFault>
         ensures ok { OnOk result
             (self.new ≡ writes (λ xid. after_change xid (Change.Truncate tables.now)) self.old) }
         ensures err { OnErr result (self.new ≡ self.old) }
@@ -198,11 +212,24 @@ impl<'h, L: LogName + SlotName, R: Wait> Transaction<'h, L, R> {
 }
 
 impl<'h, L: LogName + SlotName, R: Wait + Clock> Transaction<'h, L, R> {
-    /// Ends the transaction with what came of its work. At `Ok` it commits at this time, in microseconds since 2000-01-01, and
-    /// the streams read on after it; at `Err` it is aborted, and nothing of it stands. A commit that is refused is an abort. Where
-    /// memory is refused for that too, the error is `Unended`, whatever the work answered.
+    /// Ends the transaction with what came of its work. At `Ok` it commits at the time of the clock, and the streams read on after
+    /// it; at `Err` it is aborted, and nothing of it stands. A commit that is refused is an abort. Where memory is refused for that
+    /// too, the error is `Unended`, whatever the work answered.
+    pub fn end<T, E>(self, done: Result<T, E>) -> Result<T, E>
+    where
+        T: Drop,
+        E: From<EndFault> + Drop,
+        ensures ok { OnOk result ((result ≡ done) × (self.entry.spoilt ≡ None)) }
+        ensures err { IfErr result
+            (λ e. (done ≡ Err e) ⊎ ((fault : EndFault) × E.from_gives fault e)) }
+    {
+        let time = clock_now(self.rt, 0);
+        self.end_at(time, done)
+    }
+
+    /// The same, with a commit at this time, in microseconds since 2000-01-01.
     #[tactic(auto, using(crate::proofs::Ends::told_by))]
-    pub fn end<T, E>(self, time: i64, done: Result<T, E>) -> Result<T, E>
+    pub fn end_at<T, E>(self, time: i64, done: Result<T, E>) -> Result<T, E>
     where
         T: Drop,
         E: From<EndFault> + Drop,
