@@ -8,6 +8,7 @@ use Rattle.replcmd.specs.declared.token.Token.{Token}
 use Rattle.replcmd.specs.declared.token.Token.TheVariants.{Word, Quoted, Value, Mark, Unclosed}
 use Rattle.replcmd.specs.declared.token.TheConstants.{OPEN, CLOSE, COMMA}
 use Rattle.replcmd.specs.declared.setting.Setting.{Setting}
+use Rattle.replcmd.specs.declared.strictness.Strictness.{Strictness}
 use Rattle.replcmd.specs.Grammar.{Part, Named, Chosen, Sign, IsEnd, Follows, setting_parts}
 use Rattle.replcmd.specs.Commands.{if_open, in_brackets, more_settings, options_at, settings_at}
 use Rattle.replcmd.specs.Reading.{◌>>=◌, name_of, name_at, past_mark, separated_items}
@@ -52,40 +53,40 @@ name_shortens (token ∷ tokens) n rest e = by_name (name_of token) e
     by_name None e = absurd cc
     by_name (Some m) e = let same = (same_found m tokens n rest e).1 in omega (arith, ap (length {A = Token}) same)
 
-pub settings_shorten : Shortens setting_at more_settings
-settings_shorten = record {
+pub settings_shorten : (strictness : Strictness) → Shortens (setting_at strictness) more_settings
+settings_shorten strictness = record {
   by_item = λ ts s rest e.
-      let told = setting_told ts s rest e in
+      let told = setting_told strictness ts s rest e in
       let less = name_shortens ts (option_name s) (Value told.value ∷ rest) told.name in
       omega arith;
   by_more = λ ts next e. let is = comma_is ts next e in omega (arith, ap (length {A = Token}) is);
 }
 
-one_follows : (ts : List Token) (s : Setting) (rest : List Token) (parts : List Part) → setting_at ts ≡ found s rest → Follows rest parts → Follows ts (Named (option_name s) ∷ Chosen s ∷ parts)
-one_follows ts s rest parts e f =
-    let told = setting_told ts s rest e in
-    name_follows ts (option_name s) (Value told.value ∷ rest) (Chosen s ∷ parts) told.name (told.says, f)
+one_follows : (strictness : Strictness) (ts : List Token) (s : Setting) (rest : List Token) (parts : List Part) → setting_at strictness ts ≡ found s rest → Follows rest parts → Follows ts (Named (option_name s) ∷ Chosen strictness s ∷ parts)
+one_follows strictness ts s rest parts e f =
+    let told = setting_told strictness ts s rest e in
+    name_follows ts (option_name s) (Value told.value ∷ rest) (Chosen strictness s ∷ parts) told.name (told.says, f)
 
-settings_follow : (ts : List Token) (settings : List Setting) (rest : List Token) → Lists setting_at more_settings ts settings rest → IsEnd rest → Follows ts (setting_parts settings)
-settings_follow ts [] rest lists end = absurd lists
-settings_follow ts (s ∷ []) rest lists end =
+settings_follow : (strictness : Strictness) (ts : List Token) (settings : List Setting) (rest : List Token) → Lists (setting_at strictness) more_settings ts settings rest → IsEnd rest → Follows ts (setting_parts strictness settings)
+settings_follow strictness ts [] rest lists end = absurd lists
+settings_follow strictness ts (s ∷ []) rest lists end =
     let close = close_is lists.0 rest lists.2 in
-    one_follows ts s lists.0 (Sign CLOSE ∷ []) lists.1 (subst (λ (l : List Token). Follows l (Sign CLOSE ∷ [])) (sym close) (refl, end))
-settings_follow ts (s ∷ t ∷ settings) rest lists end =
+    one_follows strictness ts s lists.0 (Sign CLOSE ∷ []) lists.1 (subst (λ (l : List Token). Follows l (Sign CLOSE ∷ [])) (sym close) (refl, end))
+settings_follow strictness ts (s ∷ t ∷ settings) rest lists end =
     let comma = comma_is lists.0 lists.1 lists.3 in
-    let others = settings_follow lists.1 (t ∷ settings) rest lists.4 end in
-    one_follows ts s lists.0 (Sign COMMA ∷ setting_parts (t ∷ settings)) lists.2 (subst (λ (l : List Token). Follows l (Sign COMMA ∷ setting_parts (t ∷ settings))) (sym comma) (refl, others))
+    let others = settings_follow strictness lists.1 (t ∷ settings) rest lists.4 end in
+    one_follows strictness ts s lists.0 (Sign COMMA ∷ setting_parts strictness (t ∷ settings)) lists.2 (subst (λ (l : List Token). Follows l (Sign COMMA ∷ setting_parts strictness (t ∷ settings))) (sym comma) (refl, others))
 
-one_reads : (ts : List Token) (s : Setting) (parts : List Part) → Follows ts (Named (option_name s) ∷ Chosen s ∷ parts) → (rest : List Token) × (setting_at ts ≡ found s rest) × Follows rest parts
-one_reads ts s parts f =
-    let a = name_reads ts (option_name s) (Chosen s ∷ parts) f in
+one_reads : (strictness : Strictness) (ts : List Token) (s : Setting) (parts : List Part) → Follows ts (Named (option_name s) ∷ Chosen strictness s ∷ parts) → (rest : List Token) × (setting_at strictness ts ≡ found s rest) × Follows rest parts
+one_reads strictness ts s parts f =
+    let a = name_reads ts (option_name s) (Chosen strictness s ∷ parts) f in
     by_value a.0 a.1 a.2
   where
-    by_value : (mid : List Token) → name_at ts ≡ found (option_name s) mid → Follows mid (Chosen s ∷ parts) → (rest : List Token) × (setting_at ts ≡ found s rest) × Follows rest parts
+    by_value : (mid : List Token) → name_at ts ≡ found (option_name s) mid → Follows mid (Chosen strictness s ∷ parts) → (rest : List Token) × (setting_at strictness ts ≡ found s rest) × Follows rest parts
     by_value [] read f = absurd f
     by_value (Word w ∷ rest) read f = absurd f.0
     by_value (Quoted n ∷ rest) read f = absurd f.0
-    by_value (Value v ∷ rest) read f = (rest, setting_reads ts s v rest read f.0, f.1)
+    by_value (Value v ∷ rest) read f = (rest, setting_reads strictness ts s v rest read f.0, f.1)
     by_value (Mark m ∷ rest) read f = absurd f.0
     by_value (Unclosed ∷ rest) read f = absurd f.0
 
@@ -98,15 +99,15 @@ sign_front m (Value v ∷ rest) parts f = absurd f.0
 sign_front m (Mark b ∷ rest) parts f = (rest, ap (λ (x : ℕ). Mark x ∷ rest) f.0, f.1)
 sign_front m (Unclosed ∷ rest) parts f = absurd f.0
 
-settings_read : (ts : List Token) (s : Setting) (settings : List Setting) → Follows ts (setting_parts (s ∷ settings)) → (rest : List Token) × Lists setting_at more_settings ts (s ∷ settings) rest × IsEnd rest
-settings_read ts s [] f =
-    let a = one_reads ts s (Sign CLOSE ∷ []) f in
+settings_read : (strictness : Strictness) (ts : List Token) (s : Setting) (settings : List Setting) → Follows ts (setting_parts strictness (s ∷ settings)) → (rest : List Token) × Lists (setting_at strictness) more_settings ts (s ∷ settings) rest × IsEnd rest
+settings_read strictness ts s [] f =
+    let a = one_reads strictness ts s (Sign CLOSE ∷ []) f in
     let close = sign_front CLOSE a.0 [] a.2 in
     (close.0, (a.0, a.1, ap more_settings close.1), close.2)
-settings_read ts s (t ∷ settings) f =
-    let a = one_reads ts s (Sign COMMA ∷ setting_parts (t ∷ settings)) f in
-    let comma = sign_front COMMA a.0 (setting_parts (t ∷ settings)) a.2 in
-    let others = settings_read comma.0 t settings comma.2 in
+settings_read strictness ts s (t ∷ settings) f =
+    let a = one_reads strictness ts s (Sign COMMA ∷ setting_parts strictness (t ∷ settings)) f in
+    let comma = sign_front COMMA a.0 (setting_parts strictness (t ∷ settings)) a.2 in
+    let others = settings_read strictness comma.0 t settings comma.2 in
     (others.0, (a.0, comma.0, a.1, ap more_settings comma.1, others.1), others.2)
 
 -- ---- with the brackets
@@ -114,19 +115,19 @@ settings_read ts s (t ∷ settings) f =
 abbrev listed : List Setting → List Token → Result (List Setting × List Token) CmdFault
 listed settings rest = found settings rest
 
-pub options_follow : (ts : List Token) (settings : List Setting) (rest : List Token) → options_at ts ≡ listed settings rest → settings ≢ [] → IsEnd rest → Follows ts (Sign OPEN ∷ setting_parts settings)
+pub options_follow : (strictness : Strictness) (ts : List Token) (settings : List Setting) (rest : List Token) → options_at strictness ts ≡ listed settings rest → settings ≢ [] → IsEnd rest → Follows ts (Sign OPEN ∷ setting_parts strictness settings)
 unfolding options_at settings_at
-options_follow ts settings rest e some end = by_open (past_mark OPEN ts) refl e
+options_follow strictness ts settings rest e some end = by_open (past_mark OPEN ts) refl e
   where
-    by_close : (inner : List Token) → ts ≡ Mark OPEN ∷ inner → (x : Bool × List Token) → past_mark CLOSE inner ≡ x → in_brackets x ≡ listed settings rest → Follows ts (Sign OPEN ∷ setting_parts settings)
+    by_close : (inner : List Token) → ts ≡ Mark OPEN ∷ inner → (x : Bool × List Token) → past_mark CLOSE inner ≡ x → in_brackets strictness x ≡ listed settings rest → Follows ts (Sign OPEN ∷ setting_parts strictness settings)
     by_close inner open_is (true, after) close e = absurd (some (sym (same_found [] after settings rest e).0))
     by_close inner open_is (false, after) close e =
         let same = mark_stays CLOSE inner after close in
-        let lists = lists_take setting_at more_settings (suc (length after)) after settings rest e in
-        let follows = settings_follow after settings rest lists end in
-        subst (λ (l : List Token). Follows l (Sign OPEN ∷ setting_parts settings)) (sym open_is) (refl, subst (λ (l : List Token). Follows l (setting_parts settings)) (sym same) follows)
+        let lists = lists_take (setting_at strictness) more_settings (suc (length after)) after settings rest e in
+        let follows = settings_follow strictness after settings rest lists end in
+        subst (λ (l : List Token). Follows l (Sign OPEN ∷ setting_parts strictness settings)) (sym open_is) (refl, subst (λ (l : List Token). Follows l (setting_parts strictness settings)) (sym same) follows)
 
-    by_open : (x : Bool × List Token) → past_mark OPEN ts ≡ x → if_open x ≡ listed settings rest → Follows ts (Sign OPEN ∷ setting_parts settings)
+    by_open : (x : Bool × List Token) → past_mark OPEN ts ≡ x → if_open strictness x ≡ listed settings rest → Follows ts (Sign OPEN ∷ setting_parts strictness settings)
     by_open (true, inner) opened e = by_close inner (mark_is OPEN ts inner opened) (past_mark CLOSE inner) refl e
     by_open (false, after) opened e = absurd (some (sym (same_found [] after settings rest e).0))
 
@@ -139,18 +140,18 @@ no_close (Value v ∷ rest) n parts f = absurd f.0
 no_close (Mark b ∷ rest) n parts f = absurd f.0
 no_close (Unclosed ∷ rest) n parts f = absurd f.0
 
-first_named : (ts : List Token) (s : Setting) (settings : List Setting) → Follows ts (setting_parts (s ∷ settings)) → past_mark CLOSE ts ≡ passed false ts
-first_named ts s [] f = no_close ts (option_name s) (Chosen s ∷ Sign CLOSE ∷ []) f
-first_named ts s (t ∷ settings) f = no_close ts (option_name s) (Chosen s ∷ Sign COMMA ∷ setting_parts (t ∷ settings)) f
+first_named : (strictness : Strictness) (ts : List Token) (s : Setting) (settings : List Setting) → Follows ts (setting_parts strictness (s ∷ settings)) → past_mark CLOSE ts ≡ passed false ts
+first_named strictness ts s [] f = no_close ts (option_name s) (Chosen strictness s ∷ Sign CLOSE ∷ []) f
+first_named strictness ts s (t ∷ settings) f = no_close ts (option_name s) (Chosen strictness s ∷ Sign COMMA ∷ setting_parts strictness (t ∷ settings)) f
 
-opened_reads : (inner : List Token) (settings : List Setting) (rest : List Token) → past_mark CLOSE inner ≡ passed false inner
-    → separated_items setting_at more_settings (suc (length inner)) inner ≡ listed settings rest → options_at (Mark OPEN ∷ inner) ≡ listed settings rest
+opened_reads : (strictness : Strictness) (inner : List Token) (settings : List Setting) (rest : List Token) → past_mark CLOSE inner ≡ passed false inner
+    → separated_items (setting_at strictness) more_settings (suc (length inner)) inner ≡ listed settings rest → options_at strictness (Mark OPEN ∷ inner) ≡ listed settings rest
 unfolding options_at settings_at
-opened_reads inner settings rest close read = rw (close, read) refl
+opened_reads strictness inner settings rest close read = rw (close, read) refl
 
-pub options_read : (ts : List Token) (s : Setting) (settings : List Setting) → Follows ts (Sign OPEN ∷ setting_parts (s ∷ settings)) → (rest : List Token) × (options_at ts ≡ listed (s ∷ settings) rest) × IsEnd rest
-options_read ts s settings f =
-    let open_is = sign_front OPEN ts (setting_parts (s ∷ settings)) f in
-    let inner = settings_read open_is.0 s settings open_is.2 in
-    let all = lists_again setting_at more_settings settings_shorten (suc (length open_is.0)) open_is.0 (s ∷ settings) inner.0 (omega arith) inner.1 in
-    (inner.0, ap options_at open_is.1 ∙ opened_reads open_is.0 (s ∷ settings) inner.0 (first_named open_is.0 s settings open_is.2) all, inner.2)
+pub options_read : (strictness : Strictness) (ts : List Token) (s : Setting) (settings : List Setting) → Follows ts (Sign OPEN ∷ setting_parts strictness (s ∷ settings)) → (rest : List Token) × (options_at strictness ts ≡ listed (s ∷ settings) rest) × IsEnd rest
+options_read strictness ts s settings f =
+    let open_is = sign_front OPEN ts (setting_parts strictness (s ∷ settings)) f in
+    let inner = settings_read strictness open_is.0 s settings open_is.2 in
+    let all = lists_again (setting_at strictness) more_settings (settings_shorten strictness) (suc (length open_is.0)) open_is.0 (s ∷ settings) inner.0 (omega arith) inner.1 in
+    (inner.0, ap (options_at strictness) open_is.1 ∙ opened_reads strictness open_is.0 (s ∷ settings) inner.0 (first_named strictness open_is.0 s settings open_is.2) all, inner.2)

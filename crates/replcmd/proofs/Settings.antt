@@ -15,32 +15,35 @@ use Rattle.replcmd.specs.declared.setting.Setting.TheVariants.{Version, Publicat
 use Rattle.replcmd.specs.declared.fault.Unserved.{Unserved}
 use Rattle.replcmd.specs.declared.fault.Unserved.TheVariants.{Binary, Streaming, TwoPhase}
 use Rattle.replcmd.specs.declared.setting.StreamOptions.{StreamOptions}
+use Rattle.replcmd.specs.declared.strictness.Strictness.{Strictness}
 use Rattle.replcmd.specs.Reading.{◌>>=◌, name_at, value_at, names_of, truth_of}
-use Rattle.replcmd.specs.Settings.{AreSettings, ComesTo, IsValue, declined_at, declines, declines_twice, is_version, messages_at, messages_of, option_name, options_of_settings, publications_at, publications_of, setting_at, stream_options, told_options, unserved_at, unserved_name, unserved_of, version_at}
+use Rattle.replcmd.specs.Settings.{AreSettings, ComesTo, IsValue, declined_at, declines, declines_twice, discontent, is_content, is_served_version, is_version, messages_at, messages_of, option_name, options_of_settings, other_version, publications_at, publications_of, setting_at, stream_options, told_options, unserved_at, unserved_name, unserved_of, version_at}
 use Rattle.replcmd.specs.Words.{is_truth}
 use Rattle.replcmd.proofs.Lists.{found, same_found, bind_ok}
 use Rattle.replcmd.proofs.PublicationNames.{names_take, names_again}
 use Rattle.replcmd.proofs.Truths.{truth_take, truth_again}
-use Rattle.replcmd.proofs.Readers.{bytes_same, same_bytes, value_follows}
+use Rattle.replcmd.proofs.Readers.{bytes_same, value_follows}
 
 -- ---- one option
 
 -- its name, its value, and what is left
-pub record Told (ts : List Token) (s : Setting) (rest : List Token) : Type 0 where
+pub record Told (strictness : Strictness) (ts : List Token) (s : Setting) (rest : List Token) : Type 0 where
   pub value : List ℕ
   pub name : name_at ts ≡ found (option_name s) (Value value ∷ rest)
-  pub says : IsValue s value
+  pub says : IsValue strictness s value
 
-version_told : (ts : List Token) (s : Setting) (rest : List Token) → version_at ts ≡ found s rest → (v : List ℕ) × (ts ≡ Value v ∷ rest) × (s ≡ Version) × (v ≡ codes "1")
-version_told ts s rest e =
-    let a = bind_ok (value_at ts) (λ value. cond (bytes_eq value.0 (codes "1")) (Ok (Version, value.1)) (Err (BadOption wrong.Version))) (s, rest) e in
-    by_test a.0.0 a.0.1 (value_follows ts a.0.0 a.0.1 a.1) (bytes_eq a.0.0 (codes "1")) refl a.2
+version_told : (strictness : Strictness) (ts : List Token) (s : Setting) (rest : List Token) → version_at strictness ts ≡ found s rest
+    → (v : List ℕ) × (ts ≡ Value v ∷ rest) × (s ≡ Version) × (is_served_version strictness v ≡ true)
+version_told strictness ts s rest e =
+    let a = bind_ok (value_at ts) (λ value. cond (is_served_version strictness value.0) (Ok (Version, value.1)) (Err (BadOption (other_version strictness value.0)))) (s, rest) e in
+    by_test a.0.0 a.0.1 (value_follows ts a.0.0 a.0.1 a.1) (is_served_version strictness a.0.0) refl a.2
   where
-    by_test : (v : List ℕ) (mid : List Token) → ts ≡ Value v ∷ mid → (t : Bool) → bytes_eq v (codes "1") ≡ t → cond t (found Version mid) (Err (BadOption wrong.Version)) ≡ found s rest
-        → (v : List ℕ) × (ts ≡ Value v ∷ rest) × (s ≡ Version) × (v ≡ codes "1")
+    by_test : (v : List ℕ) (mid : List Token) → ts ≡ Value v ∷ mid → (t : Bool) → is_served_version strictness v ≡ t
+        → cond t (found Version mid) (Err (BadOption (other_version strictness v))) ≡ found s rest
+        → (v : List ℕ) × (ts ≡ Value v ∷ rest) × (s ≡ Version) × (is_served_version strictness v ≡ true)
     by_test v mid front true is e =
         let same = same_found Version mid s rest e in
-        (v, front ∙ ap (λ (l : List Token). Value v ∷ l) same.1, sym same.0, bytes_same v (codes "1") is)
+        (v, front ∙ ap (λ (l : List Token). Value v ∷ l) same.1, sym same.0, is)
     by_test v mid front false is e = absurd cc
 
 publications_told : (ts : List Token) (s : Setting) (rest : List Token) → publications_at ts ≡ found s rest
@@ -63,56 +66,57 @@ messages_told ts s rest e =
         let same = same_found (Messages on) mid s rest e in
         (v, on, front ∙ ap (λ (l : List Token). Value v ∷ l) same.1, sym same.0, is)
 
-declined_told : (option : Unserved) (ts : List Token) (s : Setting) (rest : List Token) → declined_at option ts ≡ found s rest
-    → (v : List ℕ) × (ts ≡ Value v ∷ rest) × (s ≡ Declined option) × (is_truth false v ≡ true)
-declined_told option ts s rest e =
-    let a = bind_ok (value_at ts) (λ value. cond (is_truth false value.0) (Ok (Declined option, value.1)) (Err (BadOption (wrong.NotServed option)))) (s, rest) e in
-    by_test a.0.0 a.0.1 (value_follows ts a.0.0 a.0.1 a.1) (is_truth false a.0.0) refl a.2
+declined_told : (strictness : Strictness) (option : Unserved) (ts : List Token) (s : Setting) (rest : List Token) → declined_at strictness option ts ≡ found s rest
+    → (v : List ℕ) × (ts ≡ Value v ∷ rest) × (s ≡ Declined option) × (is_content strictness v ≡ true)
+declined_told strictness option ts s rest e =
+    let a = bind_ok (value_at ts) (λ value. cond (is_content strictness value.0) (Ok (Declined option, value.1)) (Err (BadOption (discontent strictness option)))) (s, rest) e in
+    by_test a.0.0 a.0.1 (value_follows ts a.0.0 a.0.1 a.1) (is_content strictness a.0.0) refl a.2
   where
-    by_test : (v : List ℕ) (mid : List Token) → ts ≡ Value v ∷ mid → (t : Bool) → is_truth false v ≡ t → cond t (found (Declined option) mid) (Err (BadOption (wrong.NotServed option))) ≡ found s rest
-        → (v : List ℕ) × (ts ≡ Value v ∷ rest) × (s ≡ Declined option) × (is_truth false v ≡ true)
+    by_test : (v : List ℕ) (mid : List Token) → ts ≡ Value v ∷ mid → (t : Bool) → is_content strictness v ≡ t
+        → cond t (found (Declined option) mid) (Err (BadOption (discontent strictness option))) ≡ found s rest
+        → (v : List ℕ) × (ts ≡ Value v ∷ rest) × (s ≡ Declined option) × (is_content strictness v ≡ true)
     by_test v mid front true is e =
         let same = same_found (Declined option) mid s rest e in
         (v, front ∙ ap (λ (l : List Token). Value v ∷ l) same.1, sym same.0, is)
     by_test v mid front false is e = absurd cc
 
-unserved_told : (n : List ℕ) (ts : List Token) (s : Setting) (rest : List Token) → unserved_at (unserved_of n) ts ≡ found s rest
-    → (option : Unserved) × (v : List ℕ) × (n ≡ unserved_name option) × (ts ≡ Value v ∷ rest) × (s ≡ Declined option) × (is_truth false v ≡ true)
-unserved_told n ts s rest e = by_name (bytes_eq n (codes "binary")) refl (bytes_eq n (codes "streaming")) refl (bytes_eq n (codes "two_phase")) refl e
+unserved_told : (strictness : Strictness) (n : List ℕ) (ts : List Token) (s : Setting) (rest : List Token) → unserved_at strictness (unserved_of n) ts ≡ found s rest
+    → (option : Unserved) × (v : List ℕ) × (n ≡ unserved_name option) × (ts ≡ Value v ∷ rest) × (s ≡ Declined option) × (is_content strictness v ≡ true)
+unserved_told strictness n ts s rest e = by_name (bytes_eq n (codes "binary")) refl (bytes_eq n (codes "streaming")) refl (bytes_eq n (codes "two_phase")) refl e
   where
-    so : (option : Unserved) → n ≡ unserved_name option → declined_at option ts ≡ found s rest
-        → (option : Unserved) × (v : List ℕ) × (n ≡ unserved_name option) × (ts ≡ Value v ∷ rest) × (s ≡ Declined option) × (is_truth false v ≡ true)
-    so option is e = let told = declined_told option ts s rest e in (option, told.0, is, told.1, told.2, told.3)
+    so : (option : Unserved) → n ≡ unserved_name option → declined_at strictness option ts ≡ found s rest
+        → (option : Unserved) × (v : List ℕ) × (n ≡ unserved_name option) × (ts ≡ Value v ∷ rest) × (s ≡ Declined option) × (is_content strictness v ≡ true)
+    so option is e = let told = declined_told strictness option ts s rest e in (option, told.0, is, told.1, told.2, told.3)
 
     by_name : (t : Bool) → bytes_eq n (codes "binary") ≡ t → (u : Bool) → bytes_eq n (codes "streaming") ≡ u → (w : Bool) → bytes_eq n (codes "two_phase") ≡ w
-        → unserved_at (cond t (Some Binary) (cond u (Some Streaming) (cond w (Some TwoPhase) None))) ts ≡ found s rest
-        → (option : Unserved) × (v : List ℕ) × (n ≡ unserved_name option) × (ts ≡ Value v ∷ rest) × (s ≡ Declined option) × (is_truth false v ≡ true)
+        → unserved_at strictness (cond t (Some Binary) (cond u (Some Streaming) (cond w (Some TwoPhase) None))) ts ≡ found s rest
+        → (option : Unserved) × (v : List ℕ) × (n ≡ unserved_name option) × (ts ≡ Value v ∷ rest) × (s ≡ Declined option) × (is_content strictness v ≡ true)
     by_name true is u other w last e = so Binary (bytes_same n (codes "binary") is) e
     by_name false is true other w last e = so Streaming (bytes_same n (codes "streaming") other) e
     by_name false is false other true last e = so TwoPhase (bytes_same n (codes "two_phase") last) e
     by_name false is false other false last e = absurd cc
 
-pub setting_told : (ts : List Token) (s : Setting) (rest : List Token) → setting_at ts ≡ found s rest → Told ts s rest
+pub setting_told : (strictness : Strictness) (ts : List Token) (s : Setting) (rest : List Token) → setting_at strictness ts ≡ found s rest → Told strictness ts s rest
 unfolding setting_at
-setting_told ts s rest e =
-    let a = bind_ok (name_at ts) (λ name. cond (bytes_eq name.0 (codes "proto_version")) (version_at name.1) (cond (bytes_eq name.0 (codes "publication_names")) (publications_at name.1)
-    (cond (bytes_eq name.0 (codes "messages")) (messages_at name.1) (unserved_at (unserved_of name.0) name.1)))) (s, rest) e in
+setting_told strictness ts s rest e =
+    let a = bind_ok (name_at ts) (λ name. cond (bytes_eq name.0 (codes "proto_version")) (version_at strictness name.1) (cond (bytes_eq name.0 (codes "publication_names")) (publications_at name.1)
+    (cond (bytes_eq name.0 (codes "messages")) (messages_at name.1) (unserved_at strictness (unserved_of name.0) name.1)))) (s, rest) e in
     by_name a.0.0 a.0.1 a.1 (bytes_eq a.0.0 (codes "proto_version")) refl (bytes_eq a.0.0 (codes "publication_names")) refl (bytes_eq a.0.0 (codes "messages")) refl a.2
   where
     -- an option of this name, whose value stands after it and says so
-    so : (n : List ℕ) (mid : List Token) → name_at ts ≡ found n mid → (t : Setting) → n ≡ option_name t → s ≡ t → (v : List ℕ) → mid ≡ Value v ∷ rest → IsValue t v → Told ts s rest
+    so : (n : List ℕ) (mid : List Token) → name_at ts ≡ found n mid → (t : Setting) → n ≡ option_name t → s ≡ t → (v : List ℕ) → mid ≡ Value v ∷ rest → IsValue strictness t v → Told strictness ts s rest
     so n mid read t is same v front says =
         let name : option_name s ≡ n = ap option_name same ∙ sym is in
         record {
           value = v;
           name = read ∙ ap (λ (m : List ℕ). found m mid) (sym name) ∙ ap (found (option_name s)) front;
-          says = subst (λ (x : Setting). IsValue x v) (sym same) says;
+          says = subst (λ (x : Setting). IsValue strictness x v) (sym same) says;
         }
 
     by_name : (n : List ℕ) (mid : List Token) → name_at ts ≡ found n mid → (t : Bool) → bytes_eq n (codes "proto_version") ≡ t → (u : Bool) → bytes_eq n (codes "publication_names") ≡ u
         → (w : Bool) → bytes_eq n (codes "messages") ≡ w
-        → cond t (version_at mid) (cond u (publications_at mid) (cond w (messages_at mid) (unserved_at (unserved_of n) mid))) ≡ found s rest → Told ts s rest
-    by_name n mid read true is u other w last e = let v = version_told mid s rest e in so n mid read Version (bytes_same n (codes "proto_version") is) v.2 v.0 v.1 v.3
+        → cond t (version_at strictness mid) (cond u (publications_at mid) (cond w (messages_at mid) (unserved_at strictness (unserved_of n) mid))) ≡ found s rest → Told strictness ts s rest
+    by_name n mid read true is u other w last e = let v = version_told strictness mid s rest e in so n mid read Version (bytes_same n (codes "proto_version") is) v.2 v.0 v.1 v.3
     by_name n mid read false is true other w last e =
         let v = publications_told mid s rest e in
         so n mid read (Publications v.1) (bytes_same n (codes "publication_names") other) v.3 v.0 v.2 (names_take v.0 v.1 v.4)
@@ -120,17 +124,18 @@ setting_told ts s rest e =
         let v = messages_told mid s rest e in
         so n mid read (Messages v.1) (bytes_same n (codes "messages") last) v.3 v.0 v.2 (truth_take v.0 v.1 v.4)
     by_name n mid read false is false other false last e =
-        let v = unserved_told n mid s rest e in
+        let v = unserved_told strictness n mid s rest e in
         so n mid read (Declined v.0) v.2 v.4 v.1 v.3 v.5
 
-pub setting_reads : (ts : List Token) (s : Setting) (v : List ℕ) (rest : List Token) → name_at ts ≡ found (option_name s) (Value v ∷ rest) → IsValue s v → setting_at ts ≡ found s rest
+pub setting_reads : (strictness : Strictness) (ts : List Token) (s : Setting) (v : List ℕ) (rest : List Token) → name_at ts ≡ found (option_name s) (Value v ∷ rest) → IsValue strictness s v
+    → setting_at strictness ts ≡ found s rest
 unfolding setting_at
-setting_reads ts Version v rest name says = rw (name, same_bytes v (codes "1") says) refl
-setting_reads ts (Publications names) v rest name says = rw (name, names_again v names says) refl
-setting_reads ts (Messages on) v rest name says = rw (name, truth_again v on says) refl
-setting_reads ts (Declined Binary) v rest name says = rw (name, says) refl
-setting_reads ts (Declined Streaming) v rest name says = rw (name, says) refl
-setting_reads ts (Declined TwoPhase) v rest name says = rw (name, says) refl
+setting_reads strictness ts Version v rest name says = rw (name, says) refl
+setting_reads strictness ts (Publications names) v rest name says = rw (name, names_again v names says) refl
+setting_reads strictness ts (Messages on) v rest name says = rw (name, truth_again v on says) refl
+setting_reads strictness ts (Declined Binary) v rest name says = rw (name, says) refl
+setting_reads strictness ts (Declined Streaming) v rest name says = rw (name, says) refl
+setting_reads strictness ts (Declined TwoPhase) v rest name says = rw (name, says) refl
 
 -- ---- all of them
 

@@ -2,6 +2,7 @@ pub mod Position
 pub mod Tokens
 pub mod Lexing
 pub mod Words
+pub mod Snapshots
 pub mod Publications
 pub mod Reading
 pub mod Settings

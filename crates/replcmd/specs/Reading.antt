@@ -16,7 +16,11 @@ use Rattle.replcmd.specs.declared.token.Token.TheVariants.{Word, Quoted, Value, 
 use Rattle.replcmd.specs.declared.token.TheConstants.{COMMA, SEMICOLON}
 use Rattle.replcmd.specs.declared.verb.Verb.{Verb}
 use Rattle.replcmd.specs.declared.verb.Verb.TheVariants as verb
+use Rattle.replcmd.specs.declared.strictness.Strictness.{Strictness}
+use Rattle.replcmd.specs.declared.snapshot.Snapshot.{Snapshot}
+use Rattle.replcmd.specs.declared.snapshot.Snapshot.TheVariants.{Export}
 use Rattle.replcmd.specs.Lexing.{after_blanks, token_at}
+use Rattle.replcmd.specs.Snapshots.{said_snapshot}
 use Rattle.replcmd.specs.Words.{lower, is_keyword, is_truth, is_bare, is_slot_name}
 
 infixl 10 ◌>>=◌
@@ -57,6 +61,15 @@ begins_with_name (token ∷ tokens) = is_some (name_of token)
 abbrev pub past_word : List ℕ → List Token → Bool × List Token
 past_word keyword (Word w ∷ tokens) = if is_keyword keyword w then (true, tokens) else (false, Word w ∷ tokens)
 past_word keyword tokens = (false, tokens)
+
+-- what the keyword at the front says of a snapshot; it is exported where nothing is said
+abbrev pub past_said : Option Snapshot → List ℕ → List Token → Snapshot × List Token
+past_said (Some snapshot) w tokens = (snapshot, tokens)
+past_said None w tokens = (Export, Word w ∷ tokens)
+
+abbrev pub past_snapshot : Strictness → List Token → Snapshot × List Token
+past_snapshot strictness (Word w ∷ tokens) = past_said (said_snapshot strictness w) w tokens
+past_snapshot strictness tokens = (Export, tokens)
 
 unfoldable pub verb_of : List ℕ → Option Verb
 verb_of word =

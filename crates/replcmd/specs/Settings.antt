@@ -1,7 +1,8 @@
 -- The options of START_REPLICATION (PostgreSQL 15, 55.4 and 55.5): the name of each, the values that say it, how it is read, and what all
 -- of them come to. A further option is a line in most of these.
 use Rattle.std.specs.Prelude.{◌≡◌, ◌≤◌, ◌||◌, nat_lt, ℕ, List, [], ◌∷◌, Option, Some, None, Result, Ok, Err, Bool, true, false, count_by, if◌then◌else◌, codes}
-use Rattle.std.specs.List.{filter_map}
+use Rattle.std.specs.Char.{is_ascii_digit}
+use Rattle.std.specs.List.{filter_map, list_all}
 use Rattle.std.specs.Option.{ok_or, unwrap_or, is_some}
 use Rattle.std.specs.Str.{bytes_eq}
 use Rattle.replcmd.specs.declared.fault.CmdFault.{CmdFault}
@@ -11,7 +12,10 @@ use Rattle.replcmd.specs.declared.setting.Setting.{Setting}
 use Rattle.replcmd.specs.declared.setting.Setting.TheVariants.{Version, Publications, Messages, Declined}
 use Rattle.replcmd.specs.declared.fault.Unserved.{Unserved}
 use Rattle.replcmd.specs.declared.fault.Unserved.TheVariants.{Binary, Streaming, TwoPhase}
+use Rattle.replcmd.specs.declared.fault.OptionFault.{OptionFault}
 use Rattle.replcmd.specs.declared.fault.OptionFault.TheVariants as wrong
+use Rattle.replcmd.specs.declared.strictness.Strictness.{Strictness}
+use Rattle.replcmd.specs.declared.strictness.Strictness.TheVariants.{Strict, Lenient}
 use Rattle.replcmd.specs.declared.setting.StreamOptions.{StreamOptions}
 use Rattle.replcmd.specs.Publications.{SpellsNames}
 use Rattle.replcmd.specs.Reading.{◌>>=◌, name_at, value_at, names_of, truth_of}
@@ -30,11 +34,21 @@ option_name (Publications names) = codes "publication_names"
 option_name (Messages on) = codes "messages"
 option_name (Declined option) = unserved_name option
 
-abbrev pub IsValue : Setting → List ℕ → Type 0
-IsValue Version value = value ≡ codes "1"
-IsValue (Publications names) value = SpellsNames value names
-IsValue (Messages on) value = is_truth on value ≡ true
-IsValue (Declined option) value = is_truth false value ≡ true
+-- the version of the protocol that is served, and those of which its messages are a part
+abbrev pub is_served_version : Strictness → List ℕ → Bool
+is_served_version Strict value = bytes_eq value (codes "1")
+is_served_version Lenient value = bytes_eq value (codes "1") || (bytes_eq value (codes "2") || bytes_eq value (codes "3"))
+
+-- what asks for nothing, or for what needn't be given
+abbrev pub is_content : Strictness → List ℕ → Bool
+is_content Strict value = is_truth false value
+is_content Lenient value = is_truth true value || is_truth false value
+
+abbrev pub IsValue : Strictness → Setting → List ℕ → Type 0
+IsValue strictness Version value = is_served_version strictness value ≡ true
+IsValue strictness (Publications names) value = SpellsNames value names
+IsValue strictness (Messages on) value = is_truth on value ≡ true
+IsValue strictness (Declined option) value = is_content strictness value ≡ true
 
 -- ---- what they come to
 
@@ -71,8 +85,12 @@ pub record AreSettings (settings : List Setting) (options : StreamOptions) : Typ
 
 -- ---- reading
 
-abbrev pub version_at : List Token → Result (Setting × List Token) CmdFault
-version_at tokens = value_at tokens >>= λ value. if bytes_eq value.0 (codes "1") then Ok (Version, value.1) else Err (BadOption wrong.Version)
+abbrev pub other_version : Strictness → List ℕ → OptionFault
+other_version Strict value = wrong.Version
+other_version Lenient value = if list_all is_ascii_digit value then wrong.OtherVersion else wrong.Version
+
+abbrev pub version_at : Strictness → List Token → Result (Setting × List Token) CmdFault
+version_at strictness tokens = value_at tokens >>= λ value. if is_served_version strictness value.0 then Ok (Version, value.1) else Err (BadOption (other_version strictness value.0))
 
 abbrev pub publications_at : List Token → Result (Setting × List Token) CmdFault
 publications_at tokens = value_at tokens >>= λ value. names_of value.0 >>= λ names. Ok (Publications names, value.1)
@@ -80,23 +98,27 @@ publications_at tokens = value_at tokens >>= λ value. names_of value.0 >>= λ n
 abbrev pub messages_at : List Token → Result (Setting × List Token) CmdFault
 messages_at tokens = value_at tokens >>= λ value. ok_or (truth_of value.0) (BadOption wrong.Messages) >>= λ on. Ok (Messages on, value.1)
 
-abbrev pub declined_at : Unserved → List Token → Result (Setting × List Token) CmdFault
-declined_at option tokens = value_at tokens >>= λ value. if is_truth false value.0 then Ok (Declined option, value.1) else Err (BadOption (wrong.NotServed option))
+abbrev pub discontent : Strictness → Unserved → OptionFault
+discontent Strict option = wrong.NotServed option
+discontent Lenient option = wrong.NoTruth option
+
+abbrev pub declined_at : Strictness → Unserved → List Token → Result (Setting × List Token) CmdFault
+declined_at strictness option tokens = value_at tokens >>= λ value. if is_content strictness value.0 then Ok (Declined option, value.1) else Err (BadOption (discontent strictness option))
 
 abbrev pub unserved_of : List ℕ → Option Unserved
 unserved_of name =
     if bytes_eq name (codes "binary") then Some Binary else if bytes_eq name (codes "streaming") then Some Streaming else if bytes_eq name (codes "two_phase") then Some TwoPhase else None
 
-abbrev pub unserved_at : Option Unserved → List Token → Result (Setting × List Token) CmdFault
-unserved_at None tokens = Err (BadOption wrong.Unrecognized)
-unserved_at (Some option) tokens = declined_at option tokens
+abbrev pub unserved_at : Strictness → Option Unserved → List Token → Result (Setting × List Token) CmdFault
+unserved_at strictness None tokens = Err (BadOption wrong.Unrecognized)
+unserved_at strictness (Some option) tokens = declined_at strictness option tokens
 
-unfoldable pub setting_at : List Token → Result (Setting × List Token) CmdFault
-setting_at tokens = name_at tokens >>= λ name.
-    if bytes_eq name.0 (codes "proto_version") then version_at name.1
+unfoldable pub setting_at : Strictness → List Token → Result (Setting × List Token) CmdFault
+setting_at strictness tokens = name_at tokens >>= λ name.
+    if bytes_eq name.0 (codes "proto_version") then version_at strictness name.1
     else if bytes_eq name.0 (codes "publication_names") then publications_at name.1
     else if bytes_eq name.0 (codes "messages") then messages_at name.1
-    else unserved_at (unserved_of name.0) name.1
+    else unserved_at strictness (unserved_of name.0) name.1
 
 -- what is asked of the stream, where the version is told and the publications are
 abbrev pub stream_options : Bool → Option (List (List ℕ)) → Option Bool → Result StreamOptions CmdFault

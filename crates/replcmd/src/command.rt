@@ -11,7 +11,9 @@ use crate::fault::CmdFault;
 use crate::identify::identify_of;
 use crate::lexer::tokens_of;
 use crate::setting::StreamOptions;
+use crate::snapshot::Snapshot;
 use crate::start::start_of;
+use crate::strictness::Strictness;
 use crate::tokens::Tokens;
 use crate::verb::Verb;
 use pqformat::Text;
@@ -22,9 +24,10 @@ use std::alloc::Global;
 pub enum Command {
     /// `IDENTIFY_SYSTEM`
     Identify,
-    /// `CREATE_REPLICATION_SLOT slot LOGICAL pgoutput`
+    /// `CREATE_REPLICATION_SLOT slot LOGICAL pgoutput ( SNAPSHOT 'snapshot' )`
     Create {
         slot: Text,
+        snapshot: Snapshot,
     },
     /// `START_REPLICATION SLOT slot LOGICAL at (proto_version '1', publication_names 'publications', messages 'messages')`
     Start {
@@ -38,44 +41,44 @@ pub enum Command {
     },
 }
 
-/// The command that the text spells, all of it.
+/// The command that the text spells, all of it; among all commands, or those alone that are served as they ask.
 ///
 /// The leftmost fault is answered: `Syntax` (C1) where the words are none of a command, `BadName` (C2) at a name that no slot
 /// can have, `BadPosition` (C3) at a word that is no position, `Unsupported` (C4) at what is left out here, `BadOption` (C5) at
 /// an option or a value that isn't known; and after all those `BadOption` where an option stands twice or is missing. Or
 /// `Memory` (C6).
-pub fn parse_command(alloc: Global, text: &str) -> Result<Command, CmdFault>
+pub fn parse_command(alloc: Global, strictness: Strictness, text: &str) -> Result<Command, CmdFault>
     // What is read is spelled so.
-    ensures found { IfOk result (λ c. SpellsCommand text.now c) }
+    ensures found { IfOk result (λ c. SpellsCommand strictness text.now c) }
     // What is spelled is read, unless memory runs out.
-    ensures only { (c : Command) → SpellsCommand text.now c → Answers result (Ok c) }
+    ensures only { (c : Command) → SpellsCommand strictness text.now c → Answers result (Ok c) }
     // Which fault it is, in the order in which the tokens are judged.
-    ensures exact { Tells text.now result }
+    ensures exact { Tells strictness text.now result }
 {
-    command_of(alloc, text)
+    command_of(alloc, strictness, text)
 }
 
-fn command_of(alloc: Global, text: &str) -> Result<Command, CmdFault>
-    ensures { Tells text.now result }
+fn command_of(alloc: Global, strictness: Strictness, text: &str) -> Result<Command, CmdFault>
+    ensures { Tells strictness text.now result }
 {
     let tokens = tokens_of(alloc, text.as_bytes())?;
-    whole(alloc, Tokens::new(tokens.as_slice()))
+    whole(alloc, strictness, Tokens::new(tokens.as_slice()))
 }
 
 #[tactic(auto, unfolding(crate::specs::Commands::command_at))]
-fn whole(alloc: Global, mut tokens: Tokens<'_>) -> Result<Command, CmdFault>
-    ensures { Answers result (command_at tokens.entry) }
+fn whole(alloc: Global, strictness: Strictness, mut tokens: Tokens<'_>) -> Result<Command, CmdFault>
+    ensures { Answers result (command_at strictness tokens.entry) }
 {
     match tokens.verb()? {
         Verb::Identify => identify_of(&mut tokens),
-        Verb::Create => create_of(alloc, &mut tokens),
+        Verb::Create => create_of(alloc, strictness, &mut tokens),
         Verb::Drop => drop_of(alloc, &mut tokens),
-        Verb::Start => start_of(alloc, &mut tokens),
+        Verb::Start => start_of(alloc, strictness, &mut tokens),
     }
 }
 
 /// The law of the grammar: a text spells one command at most.
 pub fn no_text_spells_two_commands()
-    ensures { (text : List ℕ) (c d : Command) → SpellsCommand text c → SpellsCommand text d →
-        c ≡ d }
+    ensures { (strictness : Strictness) (text : List ℕ) (c d : Command) →
+        SpellsCommand strictness text c → SpellsCommand strictness text d → c ≡ d }
 {}

@@ -2,30 +2,37 @@
 
 ghost use Rattle.std.specs.Prelude.{◌≡◌};
 ghost use Rattle.replcmd.specs.Commands.{create_at, ending_at, other_option, plugin_at, snapshot_at};
-ghost use Rattle.replcmd.specs.Reading.{Answers, Moves};
+ghost use Rattle.replcmd.specs.Reading.{Answers, Gives, Moves};
 
 use crate::command::Command;
 use crate::fault::CmdFault;
+use crate::snapshot::Snapshot;
+use crate::strictness::Strictness;
 use crate::token::{CLOSE, COMMA, OPEN};
 use crate::tokens::Tokens;
 use crate::verb::Verb;
 use std::alloc::Global;
 
-/// What follows the first word (PostgreSQL 15, 55.4). Each ending says the same, that no snapshot is exported.
+/// What follows the first word (PostgreSQL 15, 55.4). Read strictly, no snapshot may be asked for by a word.
 ///
 /// ```text
-/// CREATE_REPLICATION_SLOT slot LOGICAL pgoutput [ NOEXPORT_SNAPSHOT | ( SNAPSHOT 'nothing' ) ]
+/// CREATE_REPLICATION_SLOT slot LOGICAL pgoutput
+///     [ EXPORT_SNAPSHOT | NOEXPORT_SNAPSHOT | USE_SNAPSHOT | ( SNAPSHOT { 'export' | 'nothing' | 'use' } ) ]
 /// ```
 #[tactic(auto, unfolding(crate::specs::Commands::create_at))]
-pub(crate) fn create_of(alloc: Global, tokens: &mut Tokens<'_>) -> Result<Command, CmdFault>
-    ensures { Answers result (create_at tokens.old) }
+pub(crate) fn create_of(
+    alloc: Global,
+    strictness: Strictness,
+    tokens: &mut Tokens<'_>,
+) -> Result<Command, CmdFault>
+    ensures { Answers result (create_at strictness tokens.old) }
 {
     let slot = tokens.slot(alloc)?;
     tokens.keyword(Verb::Create, "LOGICAL")?;
     plugin_of(alloc, tokens)?;
-    ending_of(tokens)?;
+    let snapshot = ending_of(strictness, tokens)?;
     tokens.end(Verb::Create)?;
-    Ok(Command::Create { slot })
+    Ok(Command::Create { slot, snapshot })
 }
 
 /// The one plugin; another one is C4.
@@ -41,32 +48,30 @@ fn plugin_of(alloc: Global, tokens: &mut Tokens<'_>) -> Result<(), CmdFault>
 }
 
 #[tactic(auto, unfolding(crate::specs::Commands::ending_at))]
-fn ending_of(tokens: &mut Tokens<'_>) -> Result<(), CmdFault>
-    ensures { Moves result tokens.new (ending_at tokens.old) }
+fn ending_of(strictness: Strictness, tokens: &mut Tokens<'_>) -> Result<Snapshot, CmdFault>
+    ensures { Gives result tokens.new (ending_at strictness tokens.old) }
 {
     if tokens.takes(OPEN) {
-        return snapshot_of(tokens);
+        return snapshot_of(strictness, tokens);
     }
-    let _ = tokens.takes_word("NOEXPORT_SNAPSHOT");
-    Ok(())
+    Ok(tokens.snapshot(strictness))
 }
 
 /// The one option in brackets; another one, or another value, is C4.
 #[tactic(auto, unfolding(crate::specs::Commands::snapshot_at))]
-fn snapshot_of(tokens: &mut Tokens<'_>) -> Result<(), CmdFault>
-    ensures { Moves result tokens.new (snapshot_at tokens.old) }
+fn snapshot_of(strictness: Strictness, tokens: &mut Tokens<'_>) -> Result<Snapshot, CmdFault>
+    ensures { Gives result tokens.new (snapshot_at strictness tokens.old) }
 {
     if !tokens.takes_word("SNAPSHOT") {
         return Err(other_option(tokens));
     }
-    if tokens.value()?.as_str() != "nothing" {
-        return Err(CmdFault::Unsupported);
-    }
+    let value = tokens.value()?;
+    let snapshot = Snapshot::named(strictness, value.as_str()).ok_or(CmdFault::Unsupported)?;
     if tokens.takes(COMMA) {
         return Err(other_option(tokens));
     }
     if tokens.takes(CLOSE) {
-        return Ok(());
+        return Ok(snapshot);
     }
     Err(CmdFault::Syntax)
 }

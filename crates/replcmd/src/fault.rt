@@ -11,14 +11,18 @@ use thiserror::Error;
 pub enum OptionFault {
     /// An option of another name than those that are known; `unrecognized_option` tells it.
     Unrecognized,
-    /// A `proto_version` that isn't 1.
+    /// A `proto_version` that isn't 1, or that is no number.
     Version,
+    /// A `proto_version` that is neither 1, 2 nor 3.
+    OtherVersion,
     /// A value of `publication_names` that is no list of names.
     PublicationNames,
     /// A value of `messages` that is no truth value.
     Messages,
     /// An option that isn't served, and is told to ask for something.
     NotServed(Unserved),
+    /// An option that isn't served, and has a value that is no truth value.
+    NoTruth(Unserved),
     /// An option that stands twice.
     Redundant,
     /// No `proto_version`.

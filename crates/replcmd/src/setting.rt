@@ -3,13 +3,14 @@
 ghost use Rattle.std.specs.Prelude.{◌≡◌, None, false, count_by};
 ghost use Rattle.replcmd.specs.Commands.{more_settings, options_at, settings_at};
 ghost use Rattle.replcmd.specs.Reading.{Gives, GivesItems};
-ghost use Rattle.replcmd.specs.Settings.{told_options, options_of_settings, declined_at, declines, declines_twice, messages_at, publications_at, setting_at, unserved_of, version_at};
+ghost use Rattle.replcmd.specs.Settings.{told_options, options_of_settings, declined_at, declines, declines_twice, discontent, is_content, is_served_version, messages_at, other_version, publications_at, setting_at, unserved_of, version_at};
 
 use crate::fault::{CmdFault, OptionFault, Unserved};
 use crate::publications::names_of;
+use crate::strictness::Strictness;
 use crate::token::{CLOSE, COMMA, OPEN};
 use crate::tokens::Tokens;
-use crate::words::{is_off, truth_of};
+use crate::words::{are_digits, is_off, truth_of};
 use pqformat::{Items, Text};
 use std::alloc::Global;
 
@@ -26,35 +27,43 @@ pub struct StreamOptions {
 /// An option, with what its value says.
 #[derive(Drop)]
 pub(crate) enum Setting {
-    /// Version 1 of the protocol.
+    /// Version 1 of the protocol, or a later one, of which its messages are a part.
     Version,
     /// The publications that are asked for.
     Publications(Items<Text>),
     /// Whether the messages in the log are asked for.
     Messages(bool),
-    /// That nothing is asked for by an option that isn't served.
+    /// That nothing is asked for by an option that isn't served, or nothing that must be given.
     Declined(Unserved),
 }
 
 /// The options in brackets; none where no bracket is opened.
 #[tactic(auto, unfolding(crate::specs::Commands::options_at))]
-pub(crate) fn options_of(alloc: Global, tokens: &mut Tokens<'_>) -> Result<Vec<Setting>, CmdFault>
-    ensures { GivesItems result tokens.new (options_at tokens.old) }
+pub(crate) fn options_of(
+    alloc: Global,
+    strictness: Strictness,
+    tokens: &mut Tokens<'_>,
+) -> Result<Vec<Setting>, CmdFault>
+    ensures { GivesItems result tokens.new (options_at strictness tokens.old) }
 {
     if !tokens.takes(OPEN) || tokens.takes(CLOSE) {
         return Ok(Vec::new(alloc));
     }
-    settings_of(alloc, tokens)
+    settings_of(alloc, strictness, tokens)
 }
 
 /// One option at least, and the bracket that closes the list.
 #[tactic(auto, unfolding(crate::specs::Commands::settings_at))]
-fn settings_of(alloc: Global, tokens: &mut Tokens<'_>) -> Result<Vec<Setting>, CmdFault>
-    ensures { GivesItems result tokens.new (settings_at tokens.old) }
+fn settings_of(
+    alloc: Global,
+    strictness: Strictness,
+    tokens: &mut Tokens<'_>,
+) -> Result<Vec<Setting>, CmdFault>
+    ensures { GivesItems result tokens.new (settings_at strictness tokens.old) }
 {
     let mut settings = Vec::new(alloc);
     loop {
-        settings.push(setting_of(alloc, tokens)?)?;
+        settings.push(setting_of(alloc, strictness, tokens)?)?;
         if !goes_on(tokens)? {
             return Ok(settings);
         }
@@ -75,12 +84,16 @@ fn goes_on(tokens: &mut Tokens<'_>) -> Result<bool, CmdFault>
 }
 
 #[tactic(auto, unfolding(crate::specs::Settings::setting_at))]
-fn setting_of(alloc: Global, tokens: &mut Tokens<'_>) -> Result<Setting, CmdFault>
-    ensures { Gives result tokens.new (setting_at tokens.old) }
+fn setting_of(
+    alloc: Global,
+    strictness: Strictness,
+    tokens: &mut Tokens<'_>,
+) -> Result<Setting, CmdFault>
+    ensures { Gives result tokens.new (setting_at strictness tokens.old) }
 {
     let name = tokens.name(alloc)?;
     if name.as_str() == "proto_version" {
-        return version_of(tokens);
+        return version_of(strictness, tokens);
     }
     if name.as_str() == "publication_names" {
         return publications_of(alloc, tokens);
@@ -89,7 +102,7 @@ fn setting_of(alloc: Global, tokens: &mut Tokens<'_>) -> Result<Setting, CmdFaul
         return messages_of(tokens);
     }
     match unserved_of(name.as_str()) {
-        Some(option) => declined_of(option, tokens),
+        Some(option) => declined_of(strictness, option, tokens),
         None => Err(CmdFault::BadOption(OptionFault::Unrecognized)),
     }
 }
@@ -106,26 +119,70 @@ pub(crate) fn unserved_of(name: &str) -> Option<Unserved>
     }
 }
 
-/// The value with which it asks for nothing.
-#[tactic(auto, unfolding(crate::specs::Reading::truth_of))]
-fn declined_of(option: Unserved, tokens: &mut Tokens<'_>) -> Result<Setting, CmdFault>
-    ensures { Gives result tokens.new (declined_at option tokens.old) }
+/// The value of an option that isn't served: none is asked for, or it may be asked for and nothing comes of it.
+fn declined_of(
+    strictness: Strictness,
+    option: Unserved,
+    tokens: &mut Tokens<'_>,
+) -> Result<Setting, CmdFault>
+    ensures { Gives result tokens.new (declined_at strictness option tokens.old) }
 {
     let value = tokens.value()?;
-    if is_off(value.as_str()) {
+    if is_content(strictness, value.as_str()) {
         return Ok(Setting::Declined(option));
     }
-    Err(CmdFault::BadOption(OptionFault::NotServed(option)))
+    Err(CmdFault::BadOption(discontent(strictness, option)))
 }
 
-fn version_of(tokens: &mut Tokens<'_>) -> Result<Setting, CmdFault>
-    ensures { Gives result tokens.new (version_at tokens.old) }
+/// Whether nothing must be given to who says this of an option that isn't served.
+#[tactic(auto, unfolding(crate::specs::Reading::truth_of))]
+fn is_content(strictness: Strictness, value: &str) -> bool
+    ensures { result ≡ is_content strictness value.now }
+{
+    match strictness {
+        Strictness::Strict => is_off(value),
+        Strictness::Lenient => truth_of(value).is_some(),
+    }
+}
+
+fn discontent(strictness: Strictness, option: Unserved) -> OptionFault
+    ensures { result ≡ discontent strictness option }
+{
+    match strictness {
+        Strictness::Strict => OptionFault::NotServed(option),
+        Strictness::Lenient => OptionFault::NoTruth(option),
+    }
+}
+
+fn version_of(strictness: Strictness, tokens: &mut Tokens<'_>) -> Result<Setting, CmdFault>
+    ensures { Gives result tokens.new (version_at strictness tokens.old) }
 {
     let value = tokens.value()?;
-    if value.as_str() == "1" {
+    if is_version(strictness, value.as_str()) {
         return Ok(Setting::Version);
     }
-    Err(CmdFault::BadOption(OptionFault::Version))
+    Err(CmdFault::BadOption(other_version(strictness, value.as_str())))
+}
+
+/// Whether version 1's messages serve who asks for this one.
+fn is_version(strictness: Strictness, value: &str) -> bool
+    ensures { result ≡ is_served_version strictness value.now }
+{
+    match (strictness, value) {
+        (_, "1") => true,
+        (Strictness::Lenient, "2" | "3") => true,
+        _ => false,
+    }
+}
+
+/// What is wrong with another one: it is no number, or that of a version which PostgreSQL 15 doesn't have.
+fn other_version(strictness: Strictness, value: &str) -> OptionFault
+    ensures { result ≡ other_version strictness value.now }
+{
+    match strictness {
+        Strictness::Lenient if are_digits(value) => OptionFault::OtherVersion,
+        _ => OptionFault::Version,
+    }
 }
 
 fn publications_of(alloc: Global, tokens: &mut Tokens<'_>) -> Result<Setting, CmdFault>

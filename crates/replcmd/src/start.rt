@@ -6,6 +6,7 @@ ghost use Rattle.replcmd.specs.Reading.{Answers};
 use crate::command::Command;
 use crate::fault::CmdFault;
 use crate::setting::{gathered, options_of};
+use crate::strictness::Strictness;
 use crate::tokens::Tokens;
 use crate::verb::Verb;
 use std::alloc::Global;
@@ -16,14 +17,18 @@ use std::alloc::Global;
 /// START_REPLICATION SLOT slot LOGICAL position ( option 'value' [, ...] )
 /// ```
 #[tactic(auto, unfolding(crate::specs::Commands::start_at))]
-pub(crate) fn start_of(alloc: Global, tokens: &mut Tokens<'_>) -> Result<Command, CmdFault>
-    ensures { Answers result (start_at tokens.old) }
+pub(crate) fn start_of(
+    alloc: Global,
+    strictness: Strictness,
+    tokens: &mut Tokens<'_>,
+) -> Result<Command, CmdFault>
+    ensures { Answers result (start_at strictness tokens.old) }
 {
     tokens.keyword(Verb::Start, "SLOT")?;
     let slot = tokens.slot(alloc)?;
     tokens.keyword(Verb::Start, "LOGICAL")?;
     let at = tokens.position()?;
-    let settings = options_of(alloc, tokens)?;
+    let settings = options_of(alloc, strictness, tokens)?;
     tokens.end(Verb::Start)?;
     let options = gathered(settings)?;
     Ok(Command::Start { slot, at, options })

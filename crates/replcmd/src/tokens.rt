@@ -1,10 +1,12 @@
 //! Reading a command from the front of its tokens.
 
 ghost use Rattle.std.specs.Prelude.{◌≡◌, IfOk};
-ghost use Rattle.replcmd.specs.Reading.{Gives, Moves, Answers, name_of, name_at, slot_at, past_mark, past_word, begins_with_name, GivesLent, verb_at, unexpected, keyword_at, end_at, position_at, value_at};
+ghost use Rattle.replcmd.specs.Reading.{Gives, Moves, Answers, name_of, name_at, slot_at, past_mark, past_word, past_snapshot, begins_with_name, GivesLent, verb_at, unexpected, keyword_at, end_at, position_at, value_at};
 
 use crate::fault::CmdFault;
 use crate::position::position_of;
+use crate::snapshot::Snapshot;
+use crate::strictness::Strictness;
 use crate::token::{SEMICOLON, Token};
 use crate::verb::Verb;
 use crate::words::{folded, is_bare, is_keyword, is_slot_name};
@@ -129,6 +131,19 @@ impl<'a> Tokens<'a> {
             return true;
         }
         false
+    }
+
+    /// What the keyword at the front says of a snapshot, and moves past it; else that it is exported, as where nothing is said.
+    pub(crate) fn snapshot(&mut self, strictness: Strictness) -> Snapshot
+        ensures { (result, self.new) ≡ past_snapshot strictness self.old }
+    {
+        if let Some((Token::Word(word), rest)) = self.rest.split_first()
+            && let Some(snapshot) = Snapshot::said(strictness, word.as_str())
+        {
+            self.rest = rest;
+            return snapshot;
+        }
+        Snapshot::Export
     }
 
     /// Whether a name stands at the front.

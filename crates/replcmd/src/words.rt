@@ -1,7 +1,7 @@
 //! What a word or a name may be.
 
 ghost use Rattle.std.specs.Prelude.{◌≡◌, IfOk, map, false};
-ghost use Rattle.std.specs.Char.{to_ascii_lowercase};
+ghost use Rattle.std.specs.Char.{is_ascii_digit, to_ascii_lowercase};
 ghost use Rattle.std.specs.List.{list_all};
 ghost use Rattle.replcmd.specs.Words.{is_keyword, is_truth, is_later, is_bare, is_slot_byte, is_slot_name};
 ghost use Rattle.replcmd.specs.Reading.{truth_of};
@@ -57,6 +57,13 @@ fn are_later(bytes: &[u8]) -> bool
     bytes
         .iter()
         .all(|b| b.is_ascii_alphanumeric() || *b == b'_' || *b == b'$')
+}
+
+/// Whether nothing but decimal digits stands there.
+pub(crate) fn are_digits(word: &str) -> bool
+    ensures { result ≡ list_all is_ascii_digit word.now }
+{
+    word.as_bytes().iter().all(|b| b.is_ascii_digit())
 }
 
 /// The word in lower case, as bare names are meant.
