@@ -10,5 +10,7 @@ pub mod PublicationNames
 pub mod Truths
 pub mod Settings
 pub mod Options
+pub mod Snapshots
 pub mod Phrases
+pub mod Endings
 pub mod Sentences

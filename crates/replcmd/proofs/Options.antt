@@ -19,7 +19,7 @@ use Rattle.replcmd.proofs.Readers.{name_follows, name_reads, passed, mark_is, ma
 
 -- ---- the list
 
-comma_is : (ts next : List Token) → more_settings ts ≡ found true next → ts ≡ Mark COMMA ∷ next
+pub comma_is : (ts next : List Token) → more_settings ts ≡ found true next → ts ≡ Mark COMMA ∷ next
 comma_is [] next e = absurd cc
 comma_is (Word w ∷ tokens) next e = absurd cc
 comma_is (Quoted n ∷ tokens) next e = absurd cc
@@ -32,7 +32,7 @@ comma_is (Mark m ∷ tokens) next e = by_test (eqb m COMMA) (λ is. eqb-true m C
     by_test false same true e = absurd (let no = (same_found false tokens true next e).0 in cc)
     by_test false same false e = absurd cc
 
-close_is : (ts rest : List Token) → more_settings ts ≡ found false rest → ts ≡ Mark CLOSE ∷ rest
+pub close_is : (ts rest : List Token) → more_settings ts ≡ found false rest → ts ≡ Mark CLOSE ∷ rest
 close_is [] rest e = absurd cc
 close_is (Word w ∷ tokens) rest e = absurd cc
 close_is (Quoted n ∷ tokens) rest e = absurd cc

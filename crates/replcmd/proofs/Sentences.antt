@@ -15,7 +15,7 @@ use Rattle.replcmd.specs.declared.command.Command.{Command}
 use Rattle.replcmd.specs.declared.command.Command.TheVariants.{Identify, Create, Start, Drop}
 use Rattle.replcmd.specs.Lexing.{Lexes}
 use Rattle.replcmd.specs.Words.{is_slot_name}
-use Rattle.replcmd.specs.Grammar.{Part, Keyword, Named, At, Quote, Chosen, Sign, IsPart, IsEnd, Follows, setting_parts, create_parts, IsEnding, start_parts, Says, SpellsCommand}
+use Rattle.replcmd.specs.Grammar.{Part, Keyword, Named, At, Quote, Truth, Chosen, Sign, IsPart, IsEnd, Follows, setting_parts, create_parts, IsEnding, start_parts, Says, SpellsCommand}
 use Rattle.replcmd.specs.Commands.{Tells, body_at, command_at, create_at, drop_at, ending_at, identify_at, options_at, plugin_at, start_at}
 use Rattle.replcmd.specs.Reading.{◌>>=◌, slot_at, verb_at, keyword_at, end_at, position_at, Answers}
 use Rattle.replcmd.specs.Settings.{AreSettings, told_options}
@@ -23,7 +23,8 @@ use Rattle.replcmd.proofs.Lexemes.{AllClosed, lexes_spells, spells_lexes, lexes_
 use Rattle.replcmd.proofs.Lists.{found, bind_ok}
 use Rattle.replcmd.proofs.Options.{options_follow, options_read}
 use Rattle.replcmd.proofs.Settings.{settings_gathered, gathered_settings, some_settings}
-use Rattle.replcmd.proofs.Phrases.{verb_follows, verb_reads, plugin_follows, plugin_reads, ending_follows, ending_reads}
+use Rattle.replcmd.proofs.Phrases.{verb_follows, verb_reads, plugin_follows, plugin_reads}
+use Rattle.replcmd.proofs.Endings.{ending_follows, ending_reads}
 use Rattle.replcmd.proofs.Readers.{name_follows, name_reads, slot_follows, slot_reads, keyword_follows, keyword_reads, position_follows, position_reads, end_is, is_end}
 
 -- ---- commands
@@ -199,6 +200,7 @@ all_closed (token ∷ ts) (part ∷ parts) f = (closed_part part token f.0, all_
     closed_part (Named n) Unclosed is = absurd is
     closed_part (At n) Unclosed is = absurd is
     closed_part (Quote v) Unclosed is = absurd is
+    closed_part (Truth on) Unclosed is = absurd is
     closed_part (Chosen strictness s) Unclosed is = absurd is
     closed_part (Sign b) Unclosed is = absurd is
 

@@ -6,17 +6,19 @@ use Rattle.std.specs.Str.{bytes_eq}
 use Rattle.replcmd.specs.declared.fault.CmdFault.{CmdFault}
 use Rattle.replcmd.specs.declared.fault.CmdFault.TheVariants.{Syntax, Unsupported}
 use Rattle.replcmd.specs.declared.token.Token.{Token}
-use Rattle.replcmd.specs.declared.token.Token.TheVariants.{Mark}
+use Rattle.replcmd.specs.declared.token.Token.TheVariants.{Word, Value, Mark}
 use Rattle.replcmd.specs.declared.token.TheConstants.{OPEN, CLOSE, COMMA}
 use Rattle.replcmd.specs.declared.verb.Verb.{Verb}
 use Rattle.replcmd.specs.declared.verb.Verb.TheVariants as verb
 use Rattle.replcmd.specs.declared.setting.Setting.{Setting}
 use Rattle.replcmd.specs.declared.snapshot.Snapshot.{Snapshot}
+use Rattle.replcmd.specs.declared.snapshot.Snapshot.TheVariants.{Export}
 use Rattle.replcmd.specs.declared.strictness.Strictness.{Strictness}
+use Rattle.replcmd.specs.declared.strictness.Strictness.TheVariants.{Strict, Lenient}
 use Rattle.replcmd.specs.declared.command.Command.{Command}
 use Rattle.replcmd.specs.declared.command.Command.TheVariants.{Identify, Create, Start, Drop}
 use Rattle.replcmd.specs.Lexing.{Lexes}
-use Rattle.replcmd.specs.Reading.{◌>>=◌, Answers, begins_with_name, end_at, keyword_at, name_at, past_mark, past_snapshot, past_word, position_at, separated_items, slot_at, value_at, verb_at}
+use Rattle.replcmd.specs.Reading.{◌>>=◌, Answers, begins_with_name, end_at, keyword_at, name_at, past_mark, past_snapshot, past_word, position_at, separated_items, slot_at, truth_of, value_at, verb_at}
 use Rattle.replcmd.specs.Snapshots.{snapshot_named}
 use Rattle.replcmd.specs.Settings.{setting_at, told_options}
 
@@ -53,27 +55,65 @@ plugin_at tokens = name_at tokens >>= λ name. if bytes_eq name.0 (codes "pgoutp
 abbrev pub other_option : List Token → CmdFault
 other_option tokens = if begins_with_name tokens then Unsupported else Syntax
 
--- the bracket that closes the one option, or a comma and another option
+-- the bracket that closes the options
 abbrev pub slot_bracket_at : List Token → Result (List Token) CmdFault
 slot_bracket_at (Mark m ∷ tokens) = if m == COMMA then Err (other_option tokens) else if m == CLOSE then Ok tokens else Err Syntax
 slot_bracket_at _ = Err Syntax
+
+-- a truth value, or none
+abbrev pub flag_at : List Token → Result (List Token) CmdFault
+flag_at (Word w ∷ tokens) = ok_or (truth_of w) Syntax >>= λ on. Ok tokens
+flag_at (Value v ∷ tokens) = ok_or (truth_of v) Syntax >>= λ on. Ok tokens
+flag_at tokens = Ok tokens
+
+abbrev pub if_two_phase : Bool × List Token → Result (List Token) CmdFault
+if_two_phase (true, tokens) = flag_at tokens
+if_two_phase (false, tokens) = Err (other_option tokens)
+
+unfoldable pub two_phase_at : List Token → Result (List Token) CmdFault
+two_phase_at tokens = if_two_phase (past_word (codes "TWO_PHASE") tokens)
 
 abbrev pub snapshot_value_at : Strictness → List Token → Result (Snapshot × List Token) CmdFault
 snapshot_value_at strictness tokens = do
   value ← value_at tokens
   snapshot ← ok_or (snapshot_named strictness value.0) Unsupported
-  rest ← slot_bracket_at value.1
-  Ok (snapshot, rest)
+  Ok (snapshot, value.1)
+
+-- SNAPSHOT as the first option, which TWO_PHASE may follow
+unfoldable pub closed_at : Strictness → List Token → Result (List Token) CmdFault
+closed_at Strict tokens = slot_bracket_at tokens
+closed_at Lenient tokens = more_settings tokens >>= λ goes. if goes.0 then (two_phase_at goes.1 >>= λ rest. slot_bracket_at rest) else Ok goes.1
+
+unfoldable pub first_snapshot_at : Strictness → List Token → Result (Snapshot × List Token) CmdFault
+first_snapshot_at strictness tokens = do
+  snapshot ← snapshot_value_at strictness tokens
+  rest ← closed_at strictness snapshot.1
+  Ok (snapshot.0, rest)
+
+-- TWO_PHASE as the first one, which SNAPSHOT may follow
+abbrev pub if_last : Bool × List Token → Result (Snapshot × List Token) CmdFault
+if_last (true, tokens) = snapshot_value_at Lenient tokens >>= λ snapshot. slot_bracket_at snapshot.1 >>= λ rest. Ok (snapshot.0, rest)
+if_last (false, tokens) = Err (other_option tokens)
+
+unfoldable pub last_snapshot_at : List Token → Result (Snapshot × List Token) CmdFault
+last_snapshot_at tokens = if_last (past_word (codes "SNAPSHOT") tokens)
+
+unfoldable pub first_two_phase_at : List Token → Result (Snapshot × List Token) CmdFault
+first_two_phase_at tokens = do
+  rest ← two_phase_at tokens
+  goes ← more_settings rest
+  if goes.0 then last_snapshot_at goes.1 else Ok (Export, goes.1)
 
 abbrev pub if_snapshot : Strictness → Bool × List Token → Result (Snapshot × List Token) CmdFault
-if_snapshot strictness (true, tokens) = snapshot_value_at strictness tokens
-if_snapshot strictness (false, tokens) = Err (other_option tokens)
+if_snapshot strictness (true, tokens) = first_snapshot_at strictness tokens
+if_snapshot Strict (false, tokens) = Err (other_option tokens)
+if_snapshot Lenient (false, tokens) = first_two_phase_at tokens
 
-unfoldable pub snapshot_at : Strictness → List Token → Result (Snapshot × List Token) CmdFault
-snapshot_at strictness tokens = if_snapshot strictness (past_word (codes "SNAPSHOT") tokens)
+unfoldable pub slot_options_at : Strictness → List Token → Result (Snapshot × List Token) CmdFault
+slot_options_at strictness tokens = if_snapshot strictness (past_word (codes "SNAPSHOT") tokens)
 
 abbrev pub ending_from : Strictness → Bool × List Token → Result (Snapshot × List Token) CmdFault
-ending_from strictness (true, tokens) = snapshot_at strictness tokens
+ending_from strictness (true, tokens) = slot_options_at strictness tokens
 ending_from strictness (false, tokens) = Ok (past_snapshot strictness tokens)
 
 unfoldable pub ending_at : Strictness → List Token → Result (Snapshot × List Token) CmdFault

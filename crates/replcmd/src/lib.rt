@@ -17,6 +17,7 @@ mod lexer;
 mod position;
 mod publications;
 mod setting;
+mod slot_options;
 mod snapshot;
 mod start;
 mod strictness;

@@ -71,7 +71,7 @@ fn settings_of(
 }
 
 /// Whether a comma follows, and so another option, or the closing bracket.
-fn goes_on(tokens: &mut Tokens<'_>) -> Result<bool, CmdFault>
+pub(crate) fn goes_on(tokens: &mut Tokens<'_>) -> Result<bool, CmdFault>
     ensures { Gives result tokens.new (more_settings tokens.old) }
 {
     if tokens.takes(COMMA) {

@@ -1,6 +1,7 @@
 //! Reading a command from the front of its tokens.
 
 ghost use Rattle.std.specs.Prelude.{◌≡◌, IfOk};
+ghost use Rattle.replcmd.specs.Commands.{flag_at};
 ghost use Rattle.replcmd.specs.Reading.{Gives, Moves, Answers, name_of, name_at, slot_at, past_mark, past_word, past_snapshot, begins_with_name, GivesLent, verb_at, unexpected, keyword_at, end_at, position_at, value_at};
 
 use crate::fault::CmdFault;
@@ -9,7 +10,7 @@ use crate::snapshot::Snapshot;
 use crate::strictness::Strictness;
 use crate::token::{SEMICOLON, Token};
 use crate::verb::Verb;
-use crate::words::{folded, is_bare, is_keyword, is_slot_name};
+use crate::words::{folded, is_bare, is_keyword, is_slot_name, truth_of};
 use pqformat::Text;
 use std::alloc::{AllocError, Global};
 use std::marker::Model;
@@ -144,6 +145,17 @@ impl<'a> Tokens<'a> {
             return snapshot;
         }
         Snapshot::Export
+    }
+
+    /// Moves past a truth value, where a word or a value stands at the front.
+    pub(crate) fn flag(&mut self) -> Result<(), CmdFault>
+        ensures { Moves result self.new (flag_at self.old) }
+    {
+        if let Some((Token::Word(text) | Token::Value(text), rest)) = self.rest.split_first() {
+            truth_of(text.as_str()).ok_or(CmdFault::Syntax)?;
+            self.rest = rest;
+        }
+        Ok(())
     }
 
     /// Whether a name stands at the front.
