@@ -18,7 +18,6 @@ use Rattle.replcmd.specs.declared.setting.StreamOptions.{StreamOptions}
 use Rattle.replcmd.specs.declared.strictness.Strictness.{Strictness}
 use Rattle.replcmd.specs.Reading.{◌>>=◌, name_at, value_at, names_of, truth_of}
 use Rattle.replcmd.specs.Settings.{AreSettings, ComesTo, IsValue, declined_at, declines, declines_twice, discontent, is_content, is_served_version, is_version, messages_at, messages_of, option_name, options_of_settings, other_version, publications_at, publications_of, setting_at, stream_options, told_options, unserved_at, unserved_name, unserved_of, version_at}
-use Rattle.replcmd.specs.Words.{is_truth}
 use Rattle.replcmd.proofs.Lists.{found, same_found, bind_ok}
 use Rattle.replcmd.proofs.PublicationNames.{names_take, names_again}
 use Rattle.replcmd.proofs.Truths.{truth_take, truth_again}
