@@ -12,6 +12,7 @@ MODE = "SHOW data_directory_mode"
 COPY = "BEGIN READ ONLY ISOLATION LEVEL REPEATABLE READ"
 PUBLICATIONS = "SELECT t.pubname FROM\n pg_catalog.pg_publication t WHERE\n t.pubname IN ({})"
 TABLES = "SELECT DISTINCT t.schemaname, t.tablename \nFROM pg_catalog.pg_publication_tables t\n WHERE t.pubname IN ({})"
+COLUMNS = TABLES.replace("\nFROM", "\n, t.attnames\nFROM")
 DROP = 'DROP_REPLICATION_SLOT "s" WAIT'
 # As PostgreSQL 15.18 writes a name that needs no quotes.
 BARE_DROP = "DROP_REPLICATION_SLOT s WAIT"
@@ -49,11 +50,23 @@ ANSWERED = [
     (DROP, completed("DROP_REPLICATION_SLOT")),
 ]
 
+COLUMN_NAMES = ["schemaname", "tablename", "attnames"]
+# What is asked only of a server that has answered others.
+ANSWERED_LATER = [
+    (COLUMNS.format("'p'"), answer(COLUMN_NAMES, [["public", "item", "{id,name,qty}"]], "SELECT 1")),
+    (COLUMNS.format("'p', 'no', 'p'"), answer(COLUMN_NAMES, [["public", "item", "{id,name,qty}"]], "SELECT 1")),
+    (COLUMNS.format("'no'"), answer(COLUMN_NAMES, [], "SELECT 0")),
+    *((f"SHOW {name}", answer([name], [[value]], "SHOW")) for name, value in (
+        ("server_version", "15.0"), ("wal_segment_size", "16MB"), ("wal_level", "logical"), ("integer_datetimes", "on"))),
+]
+NO_SUCH = "42704"
+NEAR_MODES = [(MODE[:-1], NO_SUCH), ("SHOW work_mem", NO_SUCH), ("SHOW a.b", SYNTAX), ("SHOW ", SYNTAX), ("SHOW ALL", SYNTAX)]
+
 ENDED = "'p'); DROP_REPLICATION_SLOT s; ("
 LISTS = ["", "p", '"p"', "'p' ", " 'p'", "'p','p'", "'p',  'p'", "'p', ", "'p',", "'p''", "'p' -- ", "'p'/**/", "E'p'", ENDED]
 NEAR = [
-    *(text.format(each) for text in (PUBLICATIONS, TABLES) for each in LISTS),
-    *(change(text) for text in (PATH, MODE, COPY, PUBLICATIONS.format("'p'"), TABLES.format("'p'")) for change in (
+    *(text.format(each) for text in (PUBLICATIONS, TABLES, COLUMNS) for each in LISTS),
+    *(change(text) for text in (PATH, MODE, COPY, PUBLICATIONS.format("'p'"), TABLES.format("'p'"), COLUMNS.format("'p'")) for change in (
         lambda text: text + " ",
         lambda text: " " + text,
         lambda text: text + "\n",
@@ -95,9 +108,10 @@ def questions_are_answered_where_they_may_be(pubd, subcat):
     with Server(pubd, 1, more=ON) as server:
         client = Connection(server.port)
         client.create("s")
-        for text, due in ANSWERED:
+        for text, due in ANSWERED + ANSWERED_LATER:
             got = said_to(client, text)
             wrong += [f"{text!r} is answered by {got}, and not by {due}"] * (got != due)
+        wrong += wrong_texts(client, [("SHOW work_mem", NO_SUCH, 'unrecognized configuration parameter "work_mem"')])
         for _ in range(2):
             wrong += wrong_texts(client, [(COPY, UNSUPPORTED, "initial copies are not served: use WITH (copy_data = false)")])
         copy_slot = "pg_16394_sync_16386_7000000000000000001"
@@ -107,7 +121,7 @@ def questions_are_answered_where_they_may_be(pubd, subcat):
         got = said_to(client, BARE_DROP)
         wrong += [f"{BARE_DROP!r} is answered by {got}"] * (got != completed("DROP_REPLICATION_SLOT"))
         client.close()
-        told = ["initial copies are not served: use WITH (copy_data = false)", "DROP_REPLICATION_SLOT of slot s: L1: the slot does not exist"]
+        told = ["unrecognized configuration parameter", "initial copies are not served: use WITH (copy_data = false)", "DROP_REPLICATION_SLOT of slot s: L1: the slot does not exist"]
         return wrong + server.end(ended=[f"pubd: connection 1: {each}" for each in told])
 
 
@@ -118,6 +132,7 @@ def questions_are_refused_where_they_may_not_be(pubd, subcat):
         client.create("s")
         due = [(text, SYNTAX) for text, _ in ANSWERED[:-1]] + [(COPY, SYNTAX), (DROP, UNSUPPORTED), (BARE_DROP, UNSUPPORTED)]
         wrong = wrong_texts(client, [(text, code, "not answered without --answer-postgresql") for text, code in due])
+        wrong += wrong_texts(client, [(text, SYNTAX, "syntax error") for text, _ in ANSWERED_LATER])
         wrong += wrong_texts(client, [("SELECT 1", SYNTAX, "syntax error")])
         client.close()
         path = PATH.replace("'", "\\'")
@@ -142,8 +157,8 @@ def texts_near_questions_are_refused(pubd, subcat):
     with Server(pubd, 1, more=ON) as server:
         client = Connection(server.port)
         client.create("s")
-        texts = [text for text in NEAR if text != PATH]
-        wrong = refused_otherwise(client, [(text, SYNTAX) for text in texts])
+        texts = [text for text in NEAR if text not in (PATH, MODE[:-1])]
+        wrong = refused_otherwise(client, [(text, SYNTAX) for text in texts] + NEAR_MODES)
         wrong += [f"{text!r} is taken" for text in NEAR_DROPS if code_for(client, text) is None]
         wrong += ["the slot has gone"] * (code_for(client, "DROP_REPLICATION_SLOT s") is not None)
         client.close()

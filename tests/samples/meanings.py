@@ -155,6 +155,11 @@ def command(it):
     return words(it.word, it.named.get("slot", ""))
 
 
+def lenient_command(it):
+    """A slot with what is to be done with its snapshot."""
+    return words(command(it), it.snapshot.word if it.word == "Create" else "")
+
+
 def literal(it):
     match it.word:
         case "Text":

@@ -170,6 +170,7 @@ def code(given):
 
 TEXTS = {
     "command": text("command", meanings.command, unquoted),
+    "lenient": text("lenient", meanings.lenient_command, unquoted),
     "position": position_text,
     "event": text("event", meanings.event, lambda given: unquoted(given).replace("\\r", "\r")),
     "catalog": text("catalog", meanings.catalog, toml_of),
@@ -209,7 +210,7 @@ def read(file: pathlib.Path):
         if not line or line.startswith("#"):
             continue
         call, given, said = read_line(line)
-        if call in BYTES or call == "command":
+        if call in BYTES or call in ("command", "lenient"):
             given, said = repeated(given), repeated(said)
         if call in TEXTS:
             asked = [TEXTS[call](given)]

@@ -2,7 +2,7 @@
 
 use pqformat::{Items, Text};
 use replcmd::StreamOptions;
-use server::{Backend, BackendFault, TableName};
+use server::{Backend, BackendFault, TableColumns, TableName};
 
 /// What a connection asks of its server: where the log ends, and for slots, of which this one has none.
 #[derive(Drop)]
@@ -35,6 +35,10 @@ impl Backend for EmptyBackend {
     }
 
     fn tables(&mut self, _names: &Items<Text>) -> Result<Items<TableName>, BackendFault> {
+        Err(BackendFault::UnknownPublication)
+    }
+
+    fn columns(&mut self, _names: &Items<Text>) -> Result<Items<TableColumns>, BackendFault> {
         Err(BackendFault::UnknownPublication)
     }
 

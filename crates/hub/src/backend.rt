@@ -6,8 +6,8 @@ use crate::starting::HubStart;
 use connections::{ConnectionMailbox, RefusedCommand, ServerObserver};
 use pqformat::{Items, Text};
 use replcmd::StreamOptions;
-use server::{Backend, BackendFault, Refusal, TableName};
-use server_state::{ServerState, known_names, tables_of};
+use server::{Backend, BackendFault, Refusal, TableColumns, TableName};
+use server_state::{ServerState, columns_of, known_names, tables_of};
 use shared_log::LogName;
 use slots::SlotName;
 use std::net::TcpStream;
@@ -103,6 +103,15 @@ impl<'h, L: LogName + SlotName, R: Wait + Clock, G: ServerObserver> Backend
     fn tables(&mut self, names: &Items<Text>) -> Result<Items<TableName>, BackendFault> {
         self.judge(names.as_slice())?;
         tables_of(
+            self.server_state.alloc,
+            &self.server_state.publications,
+            names.as_slice(),
+        )
+    }
+
+    fn columns(&mut self, names: &Items<Text>) -> Result<Items<TableColumns>, BackendFault> {
+        self.judge(names.as_slice())?;
+        columns_of(
             self.server_state.alloc,
             &self.server_state.publications,
             names.as_slice(),

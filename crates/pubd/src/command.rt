@@ -62,7 +62,7 @@ const WORDS: [Word<'static>; 20] = [
     Word {
         name: "answer-postgresql",
         form: WordForm::Flag,
-        help: "Answer what CREATE SUBSCRIPTION and pg_recvlogical ask beside the commands of replication, and call the server 13.0 for them",
+        help: "Answer what CREATE SUBSCRIPTION and pg_recvlogical ask beside the commands of replication, and read commands as they write them",
     },
     Word {
         name: "allow-start-ahead",

@@ -10,4 +10,5 @@ pub mod Lists
 pub mod Slots
 pub mod Once
 pub mod Rows
+pub mod Arrays
 pub mod Tails

@@ -12,12 +12,12 @@ use Rattle.frames.specs.DataRow.{data_value, FitsValue}
 use Rattle.frames.proofs.Lengths.{length_column, length_value, length_counted}
 use Rattle.server.specs.Said.{IsSmall}
 
-short_columns : (columns : List ColumnDescription) → AllByRecursion (λ c. length c.name ≤ 40) columns → length (flat_map column columns) ≤ 59 * length columns
+short_columns : (columns : List ColumnDescription) → AllByRecursion (λ c. length c.name ≤ 63) columns → length (flat_map column columns) ≤ 82 * length columns
 short_columns [] short = omega arith
 short_columns (c ∷ columns) short =
     omega (arith, short.0, short_columns columns short.1, length_column c, length-append (column c) (flat_map column columns), ap length (flat_map-cons column c columns))
 
-pub columns_fit : (columns : List ColumnDescription) → length columns ≤ 4 → AllByRecursion (λ c. length c.name ≤ 40) columns → 4 + length (counted_items column columns) < 2 ^ 32
+pub columns_fit : (columns : List ColumnDescription) → length columns ≤ 4 → AllByRecursion (λ c. length c.name ≤ 63) columns → 4 + length (counted_items column columns) < 2 ^ 32
 columns_fit columns four short = omega (arith, short_columns columns short, length_counted (length columns) (flat_map column columns))
 
 small_value : (v : DataValue) → IsSmall v → length (data_value v) ≤ 65540

@@ -104,7 +104,7 @@ went-closed told x a d out b service stage pending is = passed-over told x a d o
 
 -- a stream's end
 went-ended : {D : Type 0} (told : D → Call → D → Type 0) (a : Connection) (d : D) (out : List ℕ) (b : Connection) (end : List ℕ) → Ended a out b end → Went told IsAny [] a d out b d end
-went-ended told a d out b end e = went-one told IsAny [] a d out b d end end_turn tt e.same e.turn (append-nil a.pending.items ∙ sym e.keep) refl e.say
+went-ended told a d out b end e = went-one told IsAny [] a d out b d end (end_turn a.service.dialect) tt e.same e.turn (append-nil a.pending.items ∙ sym e.keep) refl e.say
 
 are-any : (turns : List Turn) → AllByRecursion IsAny turns
 are-any [] = tt
@@ -121,7 +121,7 @@ pub record Began {D : Type 0} (told : D → Call → D → Type 0) (service : Se
   pub fresh : old.stage ≡ Fresh
   pub empty : old.pending.items ≡ []
   pub went : Went told IsAny input old backend out new backend' out'
-  pub waits : HaveEnded went.turns ⊎ Waits new.stage new.pending.items
+  pub waits : HaveEnded service went.turns ⊎ Waits new.stage new.pending.items
 
 pub began : {D : Type 0} (told : D → Call → D → Type 0) (service : Service) (c : Connection) (backend : D) (out : List ℕ) → c.service ≡ service → c.stage ≡ Fresh → c.pending.items ≡ [] → Began told service [] backend out c backend out
 began told service c backend out numbered fresh empty = record {
@@ -153,7 +153,7 @@ began-ended told service x d out b e mid c end first then = record {
   fresh = first.fresh;
   empty = first.empty;
   went = went-append told IsAny x [] first.old d out b e mid c e end first.went (went-ended told b e mid c end then);
-  waits = inl (first.went.turns, refl);
+  waits = inl (first.went.turns, ap (λ (s : Service). first.went.turns ++ end_turn s.dialect ∷ []) (first.went.same ∙ first.numbered));
 }
 
 either : (stage : Stage) (A B : Type 0) → IfStopping stage A B → A ⊎ B

@@ -3,6 +3,7 @@ use Rattle.std.specs.Prelude.{◌≡◌, ℕ, Bool, List, [], ◌∷◌, Result}
 use Rattle.replcmd.specs.declared.setting.StreamOptions.{StreamOptions}
 use Rattle.server.specs.declared.backend_fault.BackendFault.{BackendFault}
 use Rattle.server.specs.declared.table_name.TableName.{TableName}
+use Rattle.server.specs.declared.table_name.TableColumns.{TableColumns}
 
 pub data Call : Type 0 where
   End : (end : ℕ) → Call
@@ -12,6 +13,7 @@ pub data Call : Type 0 where
   StartStream : (slot : List ℕ) → (position : ℕ) → (options : StreamOptions) → (answer : Result (Unit {0}) BackendFault) → Call
   Publications : (names : List (List ℕ)) → (answer : Result (List (List ℕ)) BackendFault) → Call
   Tables : (names : List (List ℕ)) → (answer : Result (List TableName) BackendFault) → Call
+  Columns : (names : List (List ℕ)) → (answer : Result (List TableColumns) BackendFault) → Call
   Flushed : (position : ℕ) → (ask : Bool) → Call
 
 -- The backend was asked these, one after the other.

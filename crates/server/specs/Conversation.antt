@@ -1,7 +1,12 @@
 -- A conversation: what is said to each text that a client sends, and what is asked of the backend for it.
-use Rattle.std.specs.Prelude.{◌≡◌, ◌≢◌, ℕ, ◌≤◌, length, ◌⊎◌, Bool, true, false, List, [], ◌∷◌, ◌++◌, Result, Ok, Err}
+use Rattle.std.specs.Prelude.{◌≡◌, ◌≢◌, ℕ, ◌≤◌, length, ◌⊎◌, Bool, true, false, List, [], ◌∷◌, ◌++◌, Result, Ok, Err, codes}
+use Rattle.std.specs.Str.{bytes_eq}
 use Rattle.replcmd.specs.declared.command.Command.{Command}
 use Rattle.replcmd.specs.declared.command.Command.TheVariants.{Identify, Create, Start, Drop}
+use Rattle.replcmd.specs.declared.snapshot.Snapshot.{Snapshot}
+use Rattle.replcmd.specs.declared.snapshot.Snapshot.TheVariants.{Export, Nothing, Use}
+use Rattle.replcmd.specs.declared.strictness.Strictness.{Strictness}
+use Rattle.replcmd.specs.declared.strictness.Strictness.TheVariants.{Strict, Lenient}
 use Rattle.replcmd.specs.declared.fault.CmdFault.{CmdFault}
 use Rattle.replcmd.specs.declared.fault.CmdFault.TheVariants as commands
 use Rattle.replcmd.specs.Grammar.{SpellsCommand}
@@ -14,13 +19,14 @@ use Rattle.server.specs.declared.refusal.Refusal.TheVariants as refusals
 use Rattle.server.specs.declared.service.Dialect.{Dialect}
 use Rattle.server.specs.declared.service.Dialect.TheVariants.{Commands, Questions}
 use Rattle.server.specs.declared.table_name.TableName.{TableName}
-use Rattle.server.specs.Answers.{path_set, mode_shown, publications_told, tables_told}
+use Rattle.server.specs.declared.table_name.TableColumns.{TableColumns}
+use Rattle.server.specs.Answers.{path_set, parameter_shown, publications_told, tables_told, columns_told}
 use Rattle.server.specs.Calls.{Call, End, System, CreateSlot, DropSlot, StartStream, AreAsked}
 use Rattle.server.specs.Calls as calls
-use Rattle.server.specs.Refusals.{TellsRefusal}
+use Rattle.server.specs.Refusals.{TellsRefusal, parameter_text}
 use Rattle.server.specs.Said.{error_and_ready, refused_with, answer_to_identify, answer_to_create, answer_to_drop, answer_to_start}
 use Rattle.server.specs.declared.question.Question.{Question}
-use Rattle.server.specs.declared.question.Question.TheVariants.{SearchPath, DirectoryMode, InitialCopy, Publications, Tables, DropWhenFree}
+use Rattle.server.specs.declared.question.Question.TheVariants.{SearchPath, InitialCopy, Publications, Tables, Columns, Show, DropWhenFree}
 use Rattle.server.specs.Questions.{SpellsQuestion}
 
 -- what was asked of the backend, and what was said, in one step
@@ -48,31 +54,43 @@ abbrev pub is_ok : Result (Unit {0}) BackendFault → Bool
 is_ok (Ok u) = true
 is_ok (Err fault) = false
 
+-- A slot is made, and its snapshot isn't named. No transaction is there to use it.
+abbrev pub MakesSlot : List ℕ → List Call → List ℕ → Type 0
+MakesSlot slot asked text = (answer : Result ℕ BackendFault) × (asked ≡ CreateSlot slot answer ∷ []) × (text ≡ answer_to_create slot answer)
+
+abbrev pub RefusesUse : List Call → List ℕ → Type 0
+RefusesUse asked text = (asked ≡ []) × (text ≡ error_and_ready refusals.NoTransaction)
+
+abbrev pub Makes : List ℕ → Snapshot → List Call → List ℕ → Type 0
+Makes slot Export asked text = MakesSlot slot asked text
+Makes slot Nothing asked text = MakesSlot slot asked text
+Makes slot Use asked text = RefusesUse asked text
+
 -- Each command makes its own calls, each once. One of them may begin a stream.
 abbrev pub Runs : List ℕ → Command → Bool → List Call → List ℕ → Type 0
 Runs database Identify begins asked text = (end : ℕ) × (systemid : List ℕ) × (asked ≡ End end ∷ System systemid ∷ []) × (text ≡ answer_to_identify systemid end database) × (begins ≡ false)
-Runs database (Create slot) begins asked text = (answer : Result ℕ BackendFault) × (asked ≡ CreateSlot slot answer ∷ []) × (text ≡ answer_to_create slot answer) × (begins ≡ false)
+Runs database (Create slot snapshot) begins asked text = Makes slot snapshot asked text × (begins ≡ false)
 Runs database (Drop slot) begins asked text = (answer : Result (Unit {0}) BackendFault) × (asked ≡ DropSlot slot answer ∷ []) × (text ≡ answer_to_drop slot answer) × (begins ≡ false)
 Runs database (Start slot position options) begins asked text =
     (answer : Result (Unit {0}) BackendFault) × (asked ≡ StartStream slot position options answer ∷ []) × (text ≡ answer_to_start slot options.publications answer) × (begins ≡ is_ok answer)
 
 -- the slot of a command to make one is no longer than slots' names are
 abbrev pub HasShortSlot : Command → Type 0
-HasShortSlot (Create slot) = length slot ≤ 63
+HasShortSlot (Create slot snapshot) = length slot ≤ 63
 HasShortSlot _ = Unit {0}
 
 -- A query that is no command: the code of the fault that its reading meets, or that memory ran out in the reading.
-pub record IsRefused (why : CmdFault → Refusal) (query : List ℕ) (asked : List Call) (text : List ℕ) : Type 0 where
+pub record IsRefused (strictness : Strictness) (why : CmdFault → Refusal) (query : List ℕ) (asked : List Call) (text : List ℕ) : Type 0 where
   pub fault : CmdFault
   pub nothing : asked ≡ []
   pub told : List ℕ
   pub tells : TellsRefusal (why fault) query told
   pub answer : text ≡ refused_with (why fault) told
-  pub read : Tells query (Err fault)
-  pub no_command : fault ≢ commands.Memory → (c : Command) → SpellsCommand query c → ⊥
+  pub read : Tells strictness query (Err fault)
+  pub no_command : fault ≢ commands.Memory → (c : Command) → SpellsCommand strictness query c → ⊥
 
-abbrev pub Replies : (CmdFault → Refusal) → List ℕ → List ℕ → Bool → List Call → List ℕ → Type 0
-Replies why database query begins asked text = ((c : Command) × SpellsCommand query c × Runs database c begins asked text) ⊎ (IsRefused why query asked text × (begins ≡ false))
+abbrev pub Replies : Strictness → (CmdFault → Refusal) → List ℕ → List ℕ → Bool → List Call → List ℕ → Type 0
+Replies strictness why database query begins asked text = ((c : Command) × SpellsCommand strictness query c × Runs database c begins asked text) ⊎ (IsRefused strictness why query asked text × (begins ≡ false))
 
 -- why a text is refused that is no command: as a question that isn't answered, or as what is none
 abbrev pub why_of : Bool → CmdFault → Refusal
@@ -81,26 +99,44 @@ why_of false fault = refusals.Command fault
 
 -- ---- questions
 
+abbrev pub RefusesParameter : List ℕ → List Call → List ℕ → Type 0
+RefusesParameter name asked text = (asked ≡ []) × (text ≡ refused_with refusals.UnknownParameter (parameter_text name))
+
 -- A question makes one call or none. The answers of those without a call never change.
 abbrev pub AnswersQuestion : Question → List Call → List ℕ → Type 0
 AnswersQuestion SearchPath asked text = (asked ≡ []) × (text ≡ path_set)
-AnswersQuestion DirectoryMode asked text = (asked ≡ []) × (text ≡ mode_shown)
 AnswersQuestion InitialCopy asked text = (asked ≡ []) × (text ≡ error_and_ready refusals.InitialCopy)
 AnswersQuestion (Publications names) asked text =
     (answer : Result (List (List ℕ)) BackendFault) × (asked ≡ calls.Publications names answer ∷ []) × (text ≡ publications_told answer)
 AnswersQuestion (Tables names) asked text = (answer : Result (List TableName) BackendFault) × (asked ≡ calls.Tables names answer ∷ []) × (text ≡ tables_told answer)
+AnswersQuestion (Columns names) asked text = (answer : Result (List TableColumns) BackendFault) × (asked ≡ calls.Columns names answer ∷ []) × (text ≡ columns_told answer)
+AnswersQuestion (Show name) asked text = (asked ≡ []) × (text ≡ parameter_shown name)
 AnswersQuestion (DropWhenFree slot) asked text = (answer : Result (Unit {0}) BackendFault) × (asked ≡ DropSlot slot answer ∷ []) × (text ≡ answer_to_drop slot answer)
 
 -- a text that is a question
 abbrev pub IsAnswered : List ℕ → List Call → List ℕ → Type 0
 IsAnswered query asked text = (question : Question) × SpellsQuestion query question × AnswersQuestion question asked text
 
--- whether a text is a question
-abbrev pub IsQuestioned : Bool → List ℕ → Type 0
-IsQuestioned true query = (question : Question) × SpellsQuestion query question
-IsQuestioned false query = (question : Question) → SpellsQuestion query question → ⊥
+abbrev pub IsNoQuestion : List ℕ → Type 0
+IsNoQuestion query = (question : Question) → SpellsQuestion query question → ⊥
 
--- Where questions are answered, what is none is replied to as ever. Where they aren't, one that is no command is refused as what it is.
+-- the parameter of a question to show one is named as PostgreSQL's are
+abbrev pub HasShortName : Question → Type 0
+HasShortName (Show name) = length name ≤ 63
+HasShortName _ = Unit {0}
+
+-- What a client asks first, and pg_recvlogical. Who asks this where questions aren't answered is told of the option.
+abbrev pub is_asked_first : Question → Bool
+is_asked_first (Columns names) = false
+is_asked_first (Show name) = bytes_eq name (codes "data_directory_mode")
+is_asked_first _ = true
+
+abbrev pub IsAskedFirst : Bool → List ℕ → Type 0
+IsAskedFirst true query = (question : Question) × SpellsQuestion query question × (is_asked_first question ≡ true)
+IsAskedFirst false query = (question : Question) → SpellsQuestion query question → is_asked_first question ≡ false
+
+-- Where questions are answered, what is none is read as a command leniently. Where they aren't, commands are read strictly, and what
+-- clients ask first is refused as what it is.
 abbrev pub RepliesIn : Dialect → List ℕ → List ℕ → Bool → List Call → List ℕ → Type 0
-RepliesIn Commands database query begins asked text = (is_question : Bool) × IsQuestioned is_question query × Replies (why_of is_question) database query begins asked text
-RepliesIn Questions database query begins asked text = (IsAnswered query asked text × (begins ≡ false)) ⊎ (IsQuestioned false query × Replies (why_of false) database query begins asked text)
+RepliesIn Commands database query begins asked text = (is_question : Bool) × IsAskedFirst is_question query × Replies Strict (why_of is_question) database query begins asked text
+RepliesIn Questions database query begins asked text = (IsAnswered query asked text × (begins ≡ false)) ⊎ (IsNoQuestion query × Replies Lenient (why_of false) database query begins asked text)

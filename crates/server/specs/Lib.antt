@@ -7,5 +7,6 @@ pub mod Questions
 pub mod Reading
 pub mod Refusals
 pub mod Said
+pub mod Arrays
 pub mod Answers
 pub mod Extended

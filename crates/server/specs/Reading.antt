@@ -2,7 +2,7 @@
 use Rattle.std.specs.Prelude.{ℕ, ◌==◌, List, [], ◌∷◌, Option, None, false, if◌then◌else◌}
 use Rattle.pqformat.specs.Quoting.{quoted_at}
 use Rattle.server.specs.declared.question.Question.{Question}
-use Rattle.server.specs.declared.question.Question.TheVariants.{Publications, Tables, DropWhenFree}
+use Rattle.server.specs.declared.question.Question.TheVariants.{Publications, Tables, Columns, Show, DropWhenFree}
 
 -- what is meant by it, and what follows it
 abbrev pub quoted_front : ℕ → List ℕ → Option (List ℕ × List ℕ)
@@ -12,5 +12,7 @@ quoted_front quote (b ∷ bytes) = if b == quote then quoted_at false quote byte
 abbrev pub IsPlain : Question → Type 0
 IsPlain (Publications names) = ⊥
 IsPlain (Tables names) = ⊥
+IsPlain (Columns names) = ⊥
+IsPlain (Show name) = ⊥
 IsPlain (DropWhenFree slot) = ⊥
 IsPlain _ = Unit {0}

@@ -12,13 +12,14 @@ use Rattle.server.specs.declared.backend_fault.BackendFault.{BackendFault}
 use Rattle.server.specs.declared.backend_fault.StartAhead.{StartAhead}
 use Rattle.server.specs.declared.backend_fault.BackendFault.TheVariants as backends
 use Rattle.server.specs.declared.refusal.Refusal.{Refusal}
-use Rattle.server.specs.declared.refusal.Refusal.TheVariants.{Violation, Version, NoReplication, InitialCopy, ExtendedQuery, FunctionCall, Command, Question, Asked}
+use Rattle.server.specs.declared.refusal.Refusal.TheVariants.{Violation, Version, NoReplication, InitialCopy, NoTransaction, UnknownParameter, ExtendedQuery, FunctionCall, Command, Question, Asked}
 
 abbrev pub command_code : CmdFault → List ℕ
 command_code commands.Syntax = codes "42601"
 command_code commands.BadName = codes "42602"
 command_code commands.BadPosition = codes "42601"
 command_code commands.Unsupported = codes "0A000"
+command_code (commands.BadOption options.OtherVersion) = codes "0A000"
 command_code (commands.BadOption fault) = codes "22023"
 command_code commands.Memory = codes "53200"
 
@@ -26,11 +27,15 @@ command_code commands.Memory = codes "53200"
 abbrev pub option_text : OptionFault → List ℕ
 option_text options.Unrecognized = codes "unrecognized pgoutput option"
 option_text options.Version = codes "invalid proto_version: only 1 is served"
+option_text options.OtherVersion = codes "proto_version not supported: only 1, 2 and 3 are"
 option_text options.PublicationNames = codes "invalid publication_names syntax"
 option_text options.Messages = codes "messages requires a Boolean value"
 option_text (options.NotServed unserved.Binary) = codes "binary is not served"
 option_text (options.NotServed unserved.Streaming) = codes "streaming is not served"
 option_text (options.NotServed unserved.TwoPhase) = codes "two_phase is not served"
+option_text (options.NoTruth unserved.Binary) = codes "binary requires a Boolean value"
+option_text (options.NoTruth unserved.Streaming) = codes "streaming requires a Boolean value"
+option_text (options.NoTruth unserved.TwoPhase) = codes "two_phase requires a Boolean value"
 option_text options.Redundant = codes "conflicting or redundant options"
 option_text options.VersionMissing = codes "proto_version parameter missing"
 option_text options.PublicationNamesMissing = codes "publication_names parameter missing"
@@ -76,6 +81,8 @@ refusal_code Violation = codes "08P01"
 refusal_code Version = codes "0A000"
 refusal_code NoReplication = codes "0A000"
 refusal_code InitialCopy = codes "0A000"
+refusal_code NoTransaction = codes "XX000"
+refusal_code UnknownParameter = codes "42704"
 refusal_code ExtendedQuery = codes "08P01"
 refusal_code FunctionCall = codes "08P01"
 refusal_code (Command fault) = command_code fault
@@ -87,6 +94,8 @@ refusal_text Violation = codes "protocol violation"
 refusal_text Version = codes "unsupported protocol version"
 refusal_text NoReplication = codes "only replication=database is served"
 refusal_text InitialCopy = codes "initial copies are not served: use WITH (copy_data = false)"
+refusal_text NoTransaction = codes "CREATE_REPLICATION_SLOT ... (SNAPSHOT 'use') must be called inside a transaction"
+refusal_text UnknownParameter = codes "unrecognized configuration parameter"
 refusal_text ExtendedQuery = codes "extended query protocol not supported: only simple queries are served"
 refusal_text FunctionCall = codes "function calls not supported: only simple queries are served"
 refusal_text (Command fault) = command_text fault
@@ -97,6 +106,10 @@ refusal_text (Asked fault) = backend_text fault
 abbrev pub unrecognized_text : Option (List ℕ) → List ℕ
 unrecognized_text None = option_text options.Unrecognized
 unrecognized_text (Some name) = if nat_le (length name) MOST_NAME_BYTES then codes "unrecognized pgoutput option: " ++ name else option_text options.Unrecognized
+
+-- a parameter that isn't known is named
+abbrev pub parameter_text : List ℕ → List ℕ
+parameter_text name = codes "unrecognized configuration parameter \"" ++ name ++ codes "\""
 
 -- the text by which a query is refused
 abbrev pub TellsRefusal : Refusal → List ℕ → List ℕ → Type 0

@@ -71,9 +71,9 @@ unfoldable pub greeting : ℕ → List ℕ
 greeting number = sent_frame AuthenticationOk ++ (sent_frame (status (codes "server_version") (codes "15.0")) ++ (sent_frame (status (codes "client_encoding") (codes "UTF8"))
     ++ (sent_frame (key_frame number) ++ ready)))
 
--- Who answers questions calls itself 13.0, so that subscribers ask for what is served here, and tells how it keeps times.
+-- Who answers questions tells how it keeps times, too.
 unfoldable pub other_greeting : ℕ → List ℕ
-other_greeting number = sent_frame AuthenticationOk ++ (sent_frame (status (codes "server_version") (codes "13.0")) ++ (sent_frame (status (codes "client_encoding") (codes "UTF8"))
+other_greeting number = sent_frame AuthenticationOk ++ (sent_frame (status (codes "server_version") (codes "15.0")) ++ (sent_frame (status (codes "client_encoding") (codes "UTF8"))
     ++ (sent_frame (status (codes "integer_datetimes") (codes "on")) ++ (sent_frame (key_frame number) ++ ready))))
 
 abbrev pub greeting_in : Dialect → ℕ → List ℕ
@@ -141,6 +141,11 @@ unfoldable pub answer_to_start : List ℕ → List (List ℕ) → Result (Unit {
 answer_to_start slot names (Ok u) = sent_frame (CopyBothResponse (record { format = 0; formats = [] }))
 answer_to_start slot names (Err fault) = start_refused fault slot names
 
+-- PostgreSQL's own clients wait for the end of what was copied too.
+abbrev pub copied : Dialect → List ℕ
+copied Commands = []
+copied Questions = sent_frame (completion (codes "COPY 0"))
+
 -- the end of a stream, after all of it: the command that began it is complete
-unfoldable pub end_of_stream : List ℕ
-end_of_stream = sent_frame CopyDone ++ (sent_frame (completion (codes "START_REPLICATION")) ++ ready)
+unfoldable pub end_of_stream : Dialect → List ℕ
+end_of_stream dialect = sent_frame CopyDone ++ (copied dialect ++ (sent_frame (completion (codes "START_REPLICATION")) ++ ready))

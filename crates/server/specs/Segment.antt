@@ -60,9 +60,9 @@ pub record Broke {D : Type 0} (told : D → Call → D → Type 0) (input : List
 -- The end of a stream between two connections: the one turn without a text. What came before it is kept.
 pub record Ended (old : Connection) (out : List ℕ) (new : Connection) (out' : List ℕ) : Type 0 where
   pub same : new.service ≡ old.service
-  pub turn : IsTurn old.service old.stage end_turn new.stage
+  pub turn : IsTurn old.service old.stage (end_turn old.service.dialect) new.stage
   pub keep : new.pending.items ≡ old.pending.items
-  pub say : out' ≡ out ++ end_of_stream
+  pub say : out' ≡ out ++ end_of_stream old.service.dialect
 
 -- what the client sent in it
 abbrev pub bytes_heard : Event → List ℕ

@@ -112,8 +112,8 @@ Streams database (Query query) asked said next = Refuses Violation asked said ne
 Streams database (CopyFail fail) asked said next = Refuses Violation asked said next
 
 -- A stream that stops is ended by a turn of its own, for no text: once all of the stream has been said.
-abbrev pub end_turn : Turn
-end_turn = record { text = []; asked = []; said = end_of_stream }
+abbrev pub end_turn : Dialect → Turn
+end_turn dialect = record { text = []; asked = []; said = end_of_stream dialect }
 
 -- ---- turns
 
@@ -144,7 +144,7 @@ IsTurn service Fresh t next =
 IsTurn service (Idle database) t next = IsSessionTurn (HearsExtended database) (Hears service.dialect database) t next
 IsTurn service (Skipping database) t next = IsSessionTurn (SkipsExtended database) (Skips database) t next
 IsTurn service (Streaming database) t next = IsFrameTurn (Streams database) t next
-IsTurn service (Stopping database) t next = (t ≡ end_turn) × (next ≡ Idle database)
+IsTurn service (Stopping database) t next = (t ≡ end_turn service.dialect) × (next ≡ Idle database)
 IsTurn service Closed t next = Says [] Closed t.asked t.said next
 
 -- one turn after the other
@@ -163,8 +163,8 @@ Waits (Stopping database) rest = Unit {0}
 Waits Closed rest = rest ≡ []
 
 -- a stream has just ended: what came after its CopyDone counts from the next call on
-abbrev pub HaveEnded : List Turn → Type 0
-HaveEnded turns = (before : List Turn) × (turns ≡ before ++ end_turn ∷ [])
+abbrev pub HaveEnded : Service → List Turn → Type 0
+HaveEnded service turns = (before : List Turn) × (turns ≡ before ++ end_turn service.dialect ∷ [])
 
 -- What a connection of this service hears, what it asks of its backend and what it says are one conversation: from its
 -- startup on, turn by turn, the turns spell the input but for a rest that is waited on. The bytes of streams are apart.
@@ -176,4 +176,4 @@ pub record IsConversation (service : Service) (input : List ℕ) (asked : List C
   pub spell : input ≡ flat_map (λ t. t.text) turns ++ rest
   pub ask : asked ≡ flat_map (λ t. t.asked) turns
   pub say : said ≡ flat_map (λ t. t.said) turns
-  pub waits : HaveEnded turns ⊎ Waits end rest
+  pub waits : HaveEnded service turns ⊎ Waits end rest

@@ -2,18 +2,18 @@
 
 ghost use Rattle.std.specs.Prelude.{◌<◌, ◌^◌, length, IfOk};
 ghost use Rattle.std.specs.List.{AllByRecursion};
-ghost use Rattle.server.specs.Answers.{IsShort, IsShortName};
+ghost use Rattle.server.specs.Answers.{AreShortColumns, IsShort, IsShortName};
 
 use crate::backend_fault::BackendFault;
 use crate::refusal::Refusal;
-use crate::table_name::TableName;
+use crate::table_name::{TableColumns, TableName};
 use pqformat::{Items, Text};
 use replcmd::StreamOptions;
 
 /// The backend of a connection. `told` is what one call with its answer says of a backend before and after it; a backend that
 /// tells nothing says `Unit`, one that keeps a record of its calls says that it grew by this one.
 pub trait Backend {
-    ghost use Rattle.server.specs.Calls.{Call, End, System, CreateSlot, DropSlot, StartStream, Flushed, Publications, Tables};
+    ghost use Rattle.server.specs.Calls.{Call, End, System, CreateSlot, DropSlot, StartStream, Flushed, Publications, Tables, Columns};
 
     ghost told: { Self → Call → Self → Type 0 };
 
@@ -54,6 +54,11 @@ pub trait Backend {
     fn tables(&mut self, names: &Items<Text>) -> Result<Items<TableName>, BackendFault>
         ensures told { told self.old (Tables names.now result) self.new }
         ensures short { IfOk result (λ tables. AllByRecursion IsShortName tables) };
+
+    /// The same tables, each with its columns that are published.
+    fn columns(&mut self, names: &Items<Text>) -> Result<Items<TableColumns>, BackendFault>
+        ensures told { told self.old (Columns names.now result) self.new }
+        ensures short { IfOk result (λ tables. AllByRecursion AreShortColumns tables) };
 
     /// Drops a slot once nobody holds it; who can't wait, or not for so long, answers that it is held (`SlotInUse`, L2).
     fn drop_when_free(&mut self, slot: &str) -> Result<(), BackendFault>

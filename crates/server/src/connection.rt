@@ -258,7 +258,7 @@ impl Connection {
     {
         let start = out.len();
         let stage = mem::replace(&mut self.stage, Stage::Closed);
-        if say_ended(self.alloc, out).is_err() {
+        if say_ended(self.alloc, out, self.service.dialect).is_err() {
             out.truncate(start);
             // Let go by one call, which keeps the proof short.
             drop(stage);
@@ -286,7 +286,7 @@ fn has_query(bytes: &[u8]) -> bool
 /// Where a stream's end leads to.
 fn after_end(stage: Stage) -> Stage
     requires { phase_of stage ≡ Phase.Stopping }
-    ensures { (service : Service) → IsTurn service stage end_turn result }
+    ensures { (service : Service) → IsTurn service stage (end_turn service.dialect) result }
 {
     match stage {
         Stage::Stopping(database) => Stage::Idle(database),

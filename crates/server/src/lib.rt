@@ -10,6 +10,7 @@
 #![tactic(auto)]
 
 mod answer_rows;
+mod array;
 mod backend;
 mod backend_fault;
 mod connection;
@@ -20,6 +21,7 @@ mod fault;
 mod list;
 mod naming;
 mod opening;
+mod parameter;
 mod query;
 mod question;
 mod quoted;
@@ -28,6 +30,7 @@ mod refused_query;
 mod replying;
 mod say;
 mod say_answers;
+mod say_columns_told;
 mod service;
 mod session;
 mod skipping;
@@ -49,8 +52,9 @@ pub use say::{
     say_refused_ready,
 };
 pub use say_answers::{
-    say_found_tables, say_mode, say_other_greeting, say_path_set, say_publications,
+    say_found_tables, say_other_greeting, say_path_set, say_publications, say_shown,
 };
+pub use say_columns_told::say_found_columns;
 pub use service::{Dialect, Service};
 pub use starting::say_started;
-pub use table_name::TableName;
+pub use table_name::{TableColumns, TableName};

@@ -1,19 +1,19 @@
 //! Queries: the command that a text spells, what it asks of the backend, and its answer.
 
 ghost use Rattle.std.specs.Prelude.{◌≡◌, ◌≤◌, length, false};
-ghost use Rattle.server.specs.Conversation.{Answered, Runs, Replies, HasShortSlot, is_ok, why_of};
-ghost use Rattle.replcmd.specs.declared.command.Command.TheVariants.{Identify, Create, Start, Drop};
+ghost use Rattle.server.specs.Conversation.{Answered, Makes, MakesSlot, RefusesUse, Runs, Replies, HasShortSlot, is_ok, why_of};
+ghost use Rattle.replcmd.specs.declared.command.Command.TheVariants.{Identify, Start, Drop};
 
 use crate::backend::Backend;
 use crate::backend_fault::BackendFault;
 use crate::database::Database;
 use crate::refusal::Refusal;
 use crate::refused_query::{refusal_text, say_refused_with};
-use crate::say::{say_created, say_dropped, say_identified};
+use crate::say::{say_created, say_dropped, say_identified, say_refused_ready};
 use crate::starting::say_started;
 use bytes::BytesMut;
 use pqformat::Text;
-use replcmd::{CmdFault, Command, StreamOptions, parse_command};
+use replcmd::{CmdFault, Command, Snapshot, StreamOptions, Strictness, parse_command};
 use std::alloc::{AllocError, Global};
 
 fn identify<D: Backend>(
@@ -29,19 +29,51 @@ fn identify<D: Backend>(
     say_identified(alloc, out, backend.systemid(), end, database.as_str())
 }
 
-fn create<D: Backend>(
+fn make_slot<D: Backend>(
     alloc: Global,
-    database: &Database,
     slot: &Text,
     backend: &mut D,
     out: &mut BytesMut,
 ) -> Result<(), AllocError>
     requires { length slot.now ≤ 63 }
-    ensures { Answered D.told result (λ _. Runs database.now (Create slot.now) false) backend.old
-        out.old.items backend.new out.new.items }
+    ensures { Answered D.told result (λ _. MakesSlot slot.now) backend.old out.old.items backend.new
+        out.new.items }
 {
     let answer = backend.create(slot.as_str());
     say_created(alloc, out, slot.as_str(), answer)
+}
+
+/// Refuses a slot whose snapshot is to be used by a transaction, where there is none, and tells that to the backend.
+fn refuse_use<D: Backend>(
+    alloc: Global,
+    query: &str,
+    backend: &mut D,
+    out: &mut BytesMut,
+) -> Result<(), AllocError>
+    ensures { Answered D.told result (λ _. RefusesUse) backend.old out.old.items backend.new
+        out.new.items }
+{
+    backend.refused(query, Refusal::NoTransaction);
+    say_refused_ready(alloc, out, Refusal::NoTransaction)
+}
+
+/// Makes a slot. No snapshot of it is named.
+fn create<D: Backend>(
+    alloc: Global,
+    query: &str,
+    slot: &Text,
+    snapshot: Snapshot,
+    backend: &mut D,
+    out: &mut BytesMut,
+) -> Result<(), AllocError>
+    requires { length slot.now ≤ 63 }
+    ensures { Answered D.told result (λ _. Makes slot.now snapshot) backend.old out.old.items
+        backend.new out.new.items }
+{
+    match snapshot {
+        Snapshot::Export | Snapshot::Nothing => make_slot(alloc, slot, backend, out),
+        Snapshot::Use => refuse_use(alloc, query, backend, out),
+    }
 }
 
 fn drop_slot<D: Backend>(
@@ -90,10 +122,11 @@ fn has_begun(answer: Result<(), BackendFault>) -> bool
     answer.is_ok()
 }
 
-/// Carries out a command; whether a stream has begun.
+/// Carries out the command that a query spells; whether a stream has begun.
 fn run<D: Backend>(
     alloc: Global,
     database: &Database,
+    query: &str,
     command: &Command,
     backend: &mut D,
     out: &mut BytesMut,
@@ -107,8 +140,8 @@ fn run<D: Backend>(
             identify(alloc, database, backend, out)?;
             Ok(false)
         }
-        Command::Create { slot } => {
-            create(alloc, database, slot, backend, out)?;
+        Command::Create { slot, snapshot } => {
+            create(alloc, query, slot, *snapshot, backend, out)?;
             Ok(false)
         }
         Command::Drop { slot } => {
@@ -132,12 +165,13 @@ fn why(is_question: bool, fault: CmdFault) -> Refusal
 }
 
 /// Answers the text of a Query (PostgreSQL 15, 55.2.2) in a session on this database, where questions are not answered, or it
-/// is none; whether a stream has begun, and with it no query is waited for.
+/// is none; whether a stream has begun, and with it no query is waited for. Commands are read so strictly.
 ///
 /// A command makes its calls of the backend, each once. A text that is none makes no call: it is refused by the code of its
 /// fault, and the next query is waited for.
 pub(crate) fn reply<D: Backend>(
     alloc: Global,
+    strictness: Strictness,
     database: &Database,
     query: &str,
     is_question: bool,
@@ -145,12 +179,12 @@ pub(crate) fn reply<D: Backend>(
     out: &mut BytesMut,
 ) -> Result<bool, AllocError>
     ensures { Answered D.told result
-        (λ begun. Replies (why_of is_question) database.now query.now begun) backend.old out.old.items
+        (λ begun. Replies strictness (why_of is_question) database.now query.now begun) backend.old out.old.items
         backend.new out.new.items }
 {
-    match parse_command(alloc, query) {
+    match parse_command(alloc, strictness, query) {
         Ok(command) => {
-            let answered = run(alloc, database, &command, backend, out);
+            let answered = run(alloc, database, query, &command, backend, out);
             // Let go by one call, which keeps the proof short.
             drop(command);
             answered

@@ -5,7 +5,7 @@ ghost use Rattle.std.specs.List.{list_all};
 ghost use Rattle.std.specs.Str.{IsUtf8};
 ghost use Rattle.pqformat.specs.Quoting.{in_quotes};
 ghost use Rattle.replcmd.specs.Words.{is_slot_name};
-ghost use Rattle.server.specs.Questions.{SpellsDrop, SpellsNames, SpellsQuestion};
+ghost use Rattle.server.specs.Questions.{SpellsDrop, SpellsNames, SpellsQuestion, SpellsShow};
 ghost use Rattle.server.specs.declared.quoted.TheConstants.{NAME_QUOTE};
 ghost use Rattle.server.specs.Reading.{IsPlain};
 
@@ -20,14 +20,16 @@ use std::alloc::{AllocError, Global};
 pub enum Question {
     /// That names without a schema mean nothing from here on: what `pg_recvlogical` and subscribers say first.
     SearchPath,
-    /// Who may read the server's files: `pg_recvlogical` makes its own so.
-    DirectoryMode,
     /// That the initial copy of a table begins.
     InitialCopy,
     /// Which of these names are publications.
     Publications(Items<Text>),
-    /// The tables of the publications of these names.
+    /// The tables of the publications of these names, as a server below 15 is asked.
     Tables(Items<Text>),
+    /// The same tables with their columns that are published.
+    Columns(Items<Text>),
+    /// The value of the parameter of this name. `pg_recvlogical` asks for `data_directory_mode`, to make its own files so.
+    Show(Text),
     /// That a slot is dropped as soon as nobody holds it.
     DropWhenFree(Text),
 }
@@ -51,6 +53,14 @@ pub fn question_of(alloc: Global, text: &str) -> Result<Option<Question>, AllocE
     if let Some(names) = names_behind(alloc, text, tables)? {
         return Ok(Some(Question::Tables(names)));
     }
+    let columns =
+        "SELECT DISTINCT t.schemaname, t.tablename \n, t.attnames\nFROM pg_catalog.pg_publication_tables t\n WHERE t.pubname IN (";
+    if let Some(names) = names_behind(alloc, text, columns)? {
+        return Ok(Some(Question::Columns(names)));
+    }
+    if let Some(name) = parameter_of(alloc, text.as_bytes())? {
+        return Ok(Some(Question::Show(name)));
+    }
     match slot_of(alloc, text.as_bytes())? {
         Some(slot) => Ok(Some(Question::DropWhenFree(slot))),
         None => Ok(None),
@@ -65,7 +75,6 @@ fn plain_of(text: &str) -> Option<Question>
 {
     match text {
         "SELECT pg_catalog.set_config('search_path', '', false);" => Some(Question::SearchPath),
-        "SHOW data_directory_mode" => Some(Question::DirectoryMode),
         "BEGIN READ ONLY ISOLATION LEVEL REPEATABLE READ" => Some(Question::InitialCopy),
         _ => None,
     }
@@ -82,6 +91,18 @@ fn names_behind(alloc: Global, text: &str, front: &str) -> Result<Option<Items<T
 {
     match behind(text.as_bytes(), front) {
         Some(list) => names_of(alloc, list),
+        None => Ok(None),
+    }
+}
+
+/// The parameter that is to be shown.
+fn parameter_of(alloc: Global, text: &[u8]) -> Result<Option<Text>, AllocError>
+    ensures { IfOk result
+        (λ found. MatchOption found ((name : List ℕ) → SpellsShow text.now name → ⊥)
+        (λ name. SpellsShow text.now name)) }
+{
+    match behind(text, "SHOW ") {
+        Some(named) => bare_of(alloc, named),
         None => Ok(None),
     }
 }
@@ -105,7 +126,7 @@ fn slot_of(alloc: Global, text: &[u8]) -> Result<Option<Text>, AllocError>
     }
 }
 
-/// The name of a slot that stands there without quotes.
+/// The name of a slot or of a parameter that stands there without quotes.
 fn bare_of(alloc: Global, named: &[u8]) -> Result<Option<Text>, AllocError>
     ensures { IfOk result
         (λ found. MatchOption found (is_slot_name named.now ≡ false)

@@ -18,6 +18,10 @@ pub enum Refusal {
     NoReplication,
     /// The beginning of the initial copy of a table.
     InitialCopy,
+    /// A slot whose snapshot is to be used by a transaction, where there is none.
+    NoTransaction,
+    /// A parameter that isn't known.
+    UnknownParameter,
     /// A step of an extended query.
     ExtendedQuery,
     /// A FunctionCall.
@@ -45,6 +49,11 @@ impl Refusal {
                 "0A000",
                 "initial copies are not served: use WITH (copy_data = false)",
             ),
+            Refusal::NoTransaction => (
+                "XX000",
+                "CREATE_REPLICATION_SLOT ... (SNAPSHOT 'use') must be called inside a transaction",
+            ),
+            Refusal::UnknownParameter => ("42704", "unrecognized configuration parameter"),
             Refusal::ExtendedQuery => (
                 "08P01",
                 "extended query protocol not supported: only simple queries are served",
@@ -95,6 +104,7 @@ fn code_of(fault: CmdFault) -> &'static str
         CmdFault::BadName => "42602",
         CmdFault::BadPosition => "42601",
         CmdFault::Unsupported => "0A000",
+        CmdFault::BadOption(OptionFault::OtherVersion) => "0A000",
         CmdFault::BadOption(_) => "22023",
         CmdFault::Memory => "53200",
     }
@@ -122,11 +132,15 @@ fn option_text(fault: OptionFault) -> &'static str
     match fault {
         OptionFault::Unrecognized => "unrecognized pgoutput option",
         OptionFault::Version => "invalid proto_version: only 1 is served",
+        OptionFault::OtherVersion => "proto_version not supported: only 1, 2 and 3 are",
         OptionFault::PublicationNames => "invalid publication_names syntax",
         OptionFault::Messages => "messages requires a Boolean value",
         OptionFault::NotServed(Unserved::Binary) => "binary is not served",
         OptionFault::NotServed(Unserved::Streaming) => "streaming is not served",
         OptionFault::NotServed(Unserved::TwoPhase) => "two_phase is not served",
+        OptionFault::NoTruth(Unserved::Binary) => "binary requires a Boolean value",
+        OptionFault::NoTruth(Unserved::Streaming) => "streaming requires a Boolean value",
+        OptionFault::NoTruth(Unserved::TwoPhase) => "two_phase requires a Boolean value",
         OptionFault::Redundant => "conflicting or redundant options",
         OptionFault::VersionMissing => "proto_version parameter missing",
         OptionFault::PublicationNamesMissing => "publication_names parameter missing",

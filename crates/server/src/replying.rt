@@ -1,19 +1,22 @@
 //! Queries where questions are answered, and where they aren't.
 
-ghost use Rattle.std.specs.Prelude.{◌≡◌, false, IfOk};
-ghost use Rattle.server.specs.Questions.{SpellsQuestion};
-ghost use Rattle.server.specs.Conversation.{Answered, AnswersQuestion, IsQuestioned, RepliesIn};
+ghost use Rattle.std.specs.Prelude.{◌≡◌, ◌≤◌, length, IfOk};
+ghost use Rattle.server.specs.Conversation.{Answered, AnswersQuestion, HasShortName, IsAskedFirst, RepliesIn, RefusesParameter, is_asked_first};
 
 use crate::backend::Backend;
 use crate::database::Database;
+use crate::parameter::{parameter_value, unknown_text};
 use crate::query::reply;
 use crate::question::{Question, question_of};
 use crate::refusal::Refusal;
+use crate::refused_query::say_refused_with;
 use crate::say::{say_dropped, say_refused_ready};
-use crate::say_answers::{say_found_tables, say_mode, say_path_set, say_publications};
+use crate::say_answers::{say_found_tables, say_path_set, say_publications, say_shown};
+use crate::say_columns_told::say_found_columns;
 use crate::service::Dialect;
 use bytes::BytesMut;
 use pqformat::{Items, Text};
+use replcmd::Strictness;
 use std::alloc::{AllocError, Global};
 
 fn tell_publications<D: Backend>(
@@ -40,6 +43,54 @@ fn tell_tables<D: Backend>(
 {
     let answer = backend.tables(names);
     say_found_tables(alloc, out, answer)
+}
+
+fn tell_columns<D: Backend>(
+    alloc: Global,
+    names: &Items<Text>,
+    backend: &mut D,
+    out: &mut BytesMut,
+) -> Result<(), AllocError>
+    ensures { Answered D.told result (λ _. AnswersQuestion (Question.Columns names.now)) backend.old
+        out.old.items backend.new out.new.items }
+{
+    let answer = backend.columns(names);
+    say_found_columns(alloc, out, answer)
+}
+
+/// Refuses a parameter that isn't known, and tells that to the backend.
+fn refuse_parameter<D: Backend>(
+    alloc: Global,
+    query: &str,
+    name: &str,
+    backend: &mut D,
+    out: &mut BytesMut,
+) -> Result<(), AllocError>
+    requires { length name.now ≤ 63 }
+    ensures { Answered D.told result (λ _. RefusesParameter name.now) backend.old out.old.items
+        backend.new out.new.items }
+{
+    backend.refused(query, Refusal::UnknownParameter);
+    let text = unknown_text(alloc, name)?;
+    say_refused_with(alloc, out, Refusal::UnknownParameter, text.as_str())
+}
+
+/// Shows a parameter.
+fn show<D: Backend>(
+    alloc: Global,
+    query: &str,
+    name: &Text,
+    backend: &mut D,
+    out: &mut BytesMut,
+) -> Result<(), AllocError>
+    requires { length name.now ≤ 63 }
+    ensures { Answered D.told result (λ _. AnswersQuestion (Question.Show name.now)) backend.old
+        out.old.items backend.new out.new.items }
+{
+    match parameter_value(name.as_str()) {
+        Some(value) => say_shown(alloc, out, name.as_str(), value),
+        None => refuse_parameter(alloc, query, name.as_str(), backend, out),
+    }
 }
 
 fn drop_when_free<D: Backend>(
@@ -77,15 +128,17 @@ fn answer_question<D: Backend>(
     backend: &mut D,
     out: &mut BytesMut,
 ) -> Result<(), AllocError>
+    requires { HasShortName question.now }
     ensures { Answered D.told result (λ _. AnswersQuestion question.now) backend.old out.old.items
         backend.new out.new.items }
 {
     match question {
         Question::SearchPath => say_path_set(alloc, out),
-        Question::DirectoryMode => say_mode(alloc, out),
         Question::InitialCopy => refuse_copy(alloc, query, backend, out),
         Question::Publications(names) => tell_publications(alloc, names, backend, out),
         Question::Tables(names) => tell_tables(alloc, names, backend, out),
+        Question::Columns(names) => tell_columns(alloc, names, backend, out),
+        Question::Show(name) => show(alloc, query, name, backend, out),
         Question::DropWhenFree(slot) => drop_when_free(alloc, slot, backend, out),
     }
 }
@@ -107,7 +160,15 @@ fn reply_or_answer<D: Backend>(
             answer_question(alloc, query, &question, backend, out)?;
             Ok(false)
         }
-        None => reply(alloc, database, query, false, backend, out),
+        None => reply(
+            alloc,
+            Strictness::Lenient,
+            database,
+            query,
+            false,
+            backend,
+            out,
+        ),
     }
 }
 
@@ -123,20 +184,44 @@ fn reply_or_refuse<D: Backend>(
         (λ begun. RepliesIn Dialect.Commands database.now query.now begun) backend.old out.old.items
         backend.new out.new.items }
 {
-    let is_question = is_question(alloc, query)?;
-    reply(alloc, database, query, is_question, backend, out)
+    let is_question = is_asked_first(alloc, query)?;
+    reply(
+        alloc,
+        Strictness::Strict,
+        database,
+        query,
+        is_question,
+        backend,
+        out,
+    )
 }
 
-fn is_question(alloc: Global, query: &str) -> Result<bool, AllocError>
-    ensures { IfOk result (λ found. IsQuestioned found query.now) }
+/// Whether the text asks what clients ask first.
+fn is_asked_first(alloc: Global, query: &str) -> Result<bool, AllocError>
+    ensures { IfOk result (λ found. IsAskedFirst found query.now) }
 {
     match question_of(alloc, query)? {
         Some(question) => {
+            let is_first = comes_first(&question);
             // Let go by one call, which keeps the proof short.
             drop(question);
-            Ok(true)
+            Ok(is_first)
         }
         None => Ok(false),
+    }
+}
+
+fn comes_first(question: &Question) -> bool
+    ensures { result ≡ is_asked_first question.now }
+{
+    match question {
+        Question::Columns(_) => false,
+        Question::Show(name) => name.as_str() == "data_directory_mode",
+        Question::SearchPath
+        | Question::InitialCopy
+        | Question::Publications(_)
+        | Question::Tables(_)
+        | Question::DropWhenFree(_) => true,
     }
 }
 

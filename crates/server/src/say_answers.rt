@@ -4,7 +4,7 @@ ghost use Rattle.std.specs.Prelude.{◌≡◌, ◌≤◌, ◌++◌, length, code
 ghost use Rattle.std.specs.Fmt.{decimal};
 ghost use Rattle.std.specs.List.{flat_map, AllByRecursion};
 ghost use Rattle.pqformat.specs.Putting.{Puts};
-ghost use Rattle.server.specs.Answers.{IsShort, IsShortName, single_row, single_column, table_row, table_columns, end_of_rows, path_set, mode_shown, publications_told, tables_told};
+ghost use Rattle.server.specs.Answers.{IsShort, IsShortName, single_row, single_column, table_row, table_columns, end_of_rows, path_set, publications_told, tables_told, value_shown};
 ghost use Rattle.server.specs.Said.{other_greeting};
 
 use crate::backend_fault::BackendFault;
@@ -25,7 +25,7 @@ pub fn say_other_greeting(alloc: Global, out: &mut BytesMut, number: u32) -> Res
     ensures { Puts result out.old.items out.new.items (other_greeting number) }
 {
     say_authenticated(out)?;
-    say_status(alloc, out, "server_version", "13.0")?;
+    say_status(alloc, out, "server_version", "15.0")?;
     say_status(alloc, out, "client_encoding", "UTF8")?;
     say_status(alloc, out, "integer_datetimes", "on")?;
     say_key(out, number)?;
@@ -34,7 +34,7 @@ pub fn say_other_greeting(alloc: Global, out: &mut BytesMut, number: u32) -> Res
 
 #[tactic(auto, using(pqformat::proofs::Putting::in_place), unfolding(crate::specs::Answers::single_column))]
 fn say_single_column(alloc: Global, out: &mut BytesMut, name: &str) -> Result<(), AllocError>
-    requires { length name.now ≤ 40 }
+    requires { length name.now ≤ 63 }
     ensures { Puts result out.old.items out.new.items (single_column name.now) }
 {
     let column = text_column(alloc, name)?;
@@ -103,7 +103,7 @@ fn selected_tag(alloc: Global, count: u64) -> Result<String, AllocError>
 
 /// The end of an answer of so many rows.
 #[tactic(auto, using(pqformat::proofs::Putting::in_place), unfolding(crate::specs::Answers::end_of_rows))]
-fn say_selected(alloc: Global, out: &mut BytesMut, count: u64) -> Result<(), AllocError>
+pub(crate) fn say_selected(alloc: Global, out: &mut BytesMut, count: u64) -> Result<(), AllocError>
     ensures { Puts result out.old.items out.new.items (end_of_rows count) }
 {
     let tag = selected_tag(alloc, count)?;
@@ -121,14 +121,20 @@ pub fn say_path_set(alloc: Global, out: &mut BytesMut) -> Result<(), AllocError>
     say_selected(alloc, out, 1)
 }
 
-/// The mode of a directory that its owner alone may read. `AllocError` where memory is refused; some of it may have been added
-/// then.
-#[tactic(auto, using(pqformat::proofs::Putting::in_place), unfolding(crate::specs::Answers::mode_shown))]
-pub fn say_mode(alloc: Global, out: &mut BytesMut) -> Result<(), AllocError>
-    ensures { Puts result out.old.items out.new.items mode_shown }
+/// The value of a parameter. `AllocError` where memory is refused; some of it may have been added then.
+#[tactic(auto, using(pqformat::proofs::Putting::in_place), unfolding(crate::specs::Answers::value_shown))]
+pub fn say_shown(
+    alloc: Global,
+    out: &mut BytesMut,
+    name: &str,
+    value: &str,
+) -> Result<(), AllocError>
+    requires name { length name.now ≤ 63 }
+    requires value { length value.now ≤ 63 }
+    ensures { Puts result out.old.items out.new.items (value_shown name.now value.now) }
 {
-    say_single_column(alloc, out, "data_directory_mode")?;
-    say_single_row(alloc, out, "0700")?;
+    say_single_column(alloc, out, name)?;
+    say_single_row(alloc, out, value)?;
     say_completed(alloc, out, "SHOW")?;
     say_ready(out)
 }

@@ -3,7 +3,7 @@
 ghost use Rattle.std.specs.Prelude.{◌≡◌, IfOk, IfSome, filter};
 ghost use Rattle.std.specs.List.{AllByRecursion};
 ghost use Rattle.server.specs.Answers.{IsShort, IsShortName};
-ghost use Rattle.server_state.specs.Published.{is_publication, tables_in, tables_told, told_table};
+ghost use Rattle.server_state.specs.Published.{is_publication, selection_told, tables_in, tables_told, told_table};
 
 use crate::refusals::of_publications;
 use pgoutput::Logical;
@@ -14,7 +14,7 @@ use std::alloc::{AllocError, Global};
 use std::slice;
 
 /// The most bytes of a name of PostgreSQL's, and of a configuration's.
-const MOST_NAME_BYTES: usize = 63;
+pub(crate) const MOST_NAME_BYTES: usize = 63;
 
 /// Those of the names that are publications.
 pub fn known_names(
@@ -57,16 +57,27 @@ pub fn tables_of(
     ensures told { IfOk result (λ tables. tables ≡ tables_told publications.now names.now) }
     ensures short { IfOk result (λ tables. AllByRecursion IsShortName tables) }
 {
-    let Ok(known) = known_names(alloc, publications, names) else {
-        return Err(BackendFault::Memory);
-    };
-    let selection = publications
-        .select(known.as_slice())
-        .map_err(of_publications)?;
+    let selection = selection_of(alloc, publications, names)?;
     match tables_in(alloc, &selection) {
         Ok(tables) => Ok(tables),
         Err(_) => Err(BackendFault::Memory),
     }
+}
+
+/// What the publications of these names select together.
+pub(crate) fn selection_of(
+    alloc: Global,
+    publications: &Publications,
+    names: &[Text],
+) -> Result<Selection, BackendFault>
+    ensures { IfOk result (λ selection. selection ≡ selection_told publications.now names.now) }
+{
+    let Ok(known) = known_names(alloc, publications, names) else {
+        return Err(BackendFault::Memory);
+    };
+    publications
+        .select(known.as_slice())
+        .map_err(of_publications)
 }
 
 /// The tables of a selection.

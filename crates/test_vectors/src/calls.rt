@@ -13,7 +13,10 @@ use crate::passwords::{
 use crate::publishing::{answer_explained, answer_published};
 use crate::subscriber::{answer_applied, answer_render, answer_status};
 use crate::talk::answer_talk;
-use crate::texts::{answer_catalog, answer_command, answer_config, answer_event, answer_position};
+use crate::texts::{
+    answer_catalog, answer_command, answer_config, answer_event, answer_lenient_command,
+    answer_position,
+};
 use anyhow::{Result, bail};
 use std::alloc::Global;
 
@@ -28,6 +31,7 @@ pub fn answer_call(alloc: Global, call: &str, given: &str, answer: &mut String) 
         "texts" => answer_texts(given, answer),
         "codes" => answer_codes(answer),
         "command" => answer_command(alloc, given, answer),
+        "lenient" => answer_lenient_command(alloc, given, answer),
         "position" => answer_position(alloc, given, answer),
         "event" => answer_event(alloc, given, answer),
         "catalog" => answer_catalog(alloc, given, answer),

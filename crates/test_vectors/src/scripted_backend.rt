@@ -2,7 +2,7 @@
 
 use pqformat::{Items, Text};
 use replcmd::StreamOptions;
-use server::{Backend, BackendFault, TableName};
+use server::{Backend, BackendFault, TableColumns, TableName};
 use std::alloc::{AllocError, Global};
 
 /// The slots that it refuses, and why. It takes any other.
@@ -80,6 +80,10 @@ impl Backend for ScriptedBackend {
     }
 
     fn tables(&mut self, _names: &Items<Text>) -> Result<Items<TableName>, BackendFault> {
+        Err(BackendFault::UnknownPublication)
+    }
+
+    fn columns(&mut self, _names: &Items<Text>) -> Result<Items<TableColumns>, BackendFault> {
         Err(BackendFault::UnknownPublication)
     }
 

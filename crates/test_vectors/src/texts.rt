@@ -4,12 +4,17 @@ use crate::answer::tell;
 use anyhow::Result;
 use catalog::Catalog;
 use configuration::{Config, ConfigFault};
-use replcmd::{parse_command, parse_position, write_position};
+use replcmd::{Strictness, parse_command, parse_position, write_position};
 use schedule::Event;
 use std::alloc::{AllocError, Global};
 
 pub fn answer_command(alloc: Global, given: &str, answer: &mut String) -> Result<()> {
-    tell(answer, &parse_command(alloc, given))
+    tell(answer, &parse_command(alloc, Strictness::Strict, given))
+}
+
+/// Read leniently.
+pub fn answer_lenient_command(alloc: Global, given: &str, answer: &mut String) -> Result<()> {
+    tell(answer, &parse_command(alloc, Strictness::Lenient, given))
 }
 
 /// A position is written again.

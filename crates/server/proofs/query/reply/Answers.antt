@@ -7,11 +7,11 @@ use Rattle.server.proofs.Steps.{not_read, answered_as}
 use Rattle.server.proofs.query.reply.Goals as goal
 
 pub run-answered-requires : goal.run-answered-requires
-run-answered-requires g c = short_slot c.args.query.now c.in-Ok.command c.in-Ok.ensures.found
+run-answered-requires g c = short_slot c.args.strictness c.args.query.now c.in-Ok.command c.in-Ok.ensures.found
 
 pub returns-in-Ok : goal.returns-in-Ok
 returns-in-Ok g c =
-    answered_as g.D.Backend.told c.run-answered.result (λ begun. Runs c.args.database.now c.in-Ok.command begun) (λ begun. Replies (why_of c.args.is_question) c.args.database.now c.args.query.now begun) c.args.backend.now c.args.out.now.items c.run-answered.new.backend c.run-answered.new.out.items
+    answered_as g.D.Backend.told c.run-answered.result (λ begun. Runs c.args.database.now c.in-Ok.command begun) (λ begun. Replies c.args.strictness (why_of c.args.is_question) c.args.database.now c.args.query.now begun) c.args.backend.now c.args.out.now.items c.run-answered.new.backend c.run-answered.new.out.items
     (λ begun asked text fact. inl (c.in-Ok.command, c.in-Ok.ensures.found, fact)) c.run-answered.ensures
 
 pub returns-in_ok-say_refused_with-in-Err : goal.returns-in_ok-say_refused_with-in-Err

@@ -1,6 +1,6 @@
 use Rattle.std.proofs.Common.{[], refl}
-use Rattle.server.specs.declared.question.Question.TheVariants.{SearchPath, DirectoryMode}
-use Rattle.server.specs.Answers.{path_set, mode_shown}
+use Rattle.server.specs.declared.question.Question.TheVariants.{SearchPath}
+use Rattle.server.specs.Answers.{path_set}
 use Rattle.server.specs.Conversation.{AnswersQuestion}
 use Rattle.server.proofs.Steps.{gave}
 use Rattle.server.proofs.replying.answer_question.Goals as goal
@@ -8,10 +8,6 @@ use Rattle.server.proofs.replying.answer_question.Goals as goal
 pub returns-in-SearchPath : goal.returns-in-SearchPath
 returns-in-SearchPath g c =
     rw c.in-SearchPath.is (gave g.D.Backend.told (AnswersQuestion SearchPath) [] path_set c.say_path_set.result c.args.backend.now c.args.out.now.items c.args.backend.now c.say_path_set.new.out.items refl (refl, refl) c.say_path_set.ensures)
-
-pub returns-in-DirectoryMode : goal.returns-in-DirectoryMode
-returns-in-DirectoryMode g c =
-    rw c.in-DirectoryMode.is (gave g.D.Backend.told (AnswersQuestion DirectoryMode) [] mode_shown c.say_mode.result c.args.backend.now c.args.out.now.items c.args.backend.now c.say_mode.new.out.items refl (refl, refl) c.say_mode.ensures)
 
 pub returns-in-InitialCopy : goal.returns-in-InitialCopy
 returns-in-InitialCopy g c = rw c.in-InitialCopy.is c.refuse_copy.ensures

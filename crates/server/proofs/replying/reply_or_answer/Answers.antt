@@ -1,9 +1,11 @@
 use Rattle.std.proofs.Common.{Bool, false, List, ℕ, refl, inl, inr, rules}
 use Rattle.std.proofs.lemmas.Result.{err_from_is_err_and}
+use Rattle.replcmd.specs.declared.strictness.Strictness.TheVariants.{Lenient}
 use Rattle.server.specs.declared.question.Question.{Question}
 use Rattle.server.specs.Questions.{SpellsQuestion}
 use Rattle.server.specs.declared.service.Dialect.TheVariants.{Questions}
 use Rattle.server.specs.Conversation.{AnswersQuestion, Replies, RepliesIn, why_of}
+use Rattle.server.proofs.Names.{short_parameter}
 use Rattle.server.proofs.Steps.{answered_as, tried_as}
 use Rattle.server.proofs.replying.reply_or_answer.Goals as goal
 
@@ -21,5 +23,10 @@ returns-in_err-answer_question-in-Some g c =
 pub returns-in-None : goal.returns-in-None
 returns-in-None g c =
     let none : (question : Question) → SpellsQuestion c.args.query.now question → ⊥ = search rules in
-    answered_as g.D.Backend.told c.reply.result (λ begun. Replies (why_of false) c.args.database.now c.args.query.now begun) (λ begun. RepliesIn Questions c.args.database.now c.args.query.now begun) c.args.backend.now c.args.out.now.items c.reply.new.backend c.reply.new.out.items
+    answered_as g.D.Backend.told c.reply.result (λ begun. Replies Lenient (why_of false) c.args.database.now c.args.query.now begun) (λ begun. RepliesIn Questions c.args.database.now c.args.query.now begun) c.args.backend.now c.args.out.now.items c.reply.new.backend c.reply.new.out.items
     (λ begun calls text fact. inr (none, fact)) c.reply.ensures
+
+pub answer_question-requires : goal.answer_question-requires
+answer_question-requires g c =
+    let asked : SpellsQuestion c.args.query.now c.in-Some.question = search rules in
+    short_parameter c.args.query.now c.in-Some.question asked

@@ -14,5 +14,5 @@ returns c =
     let behind_times = sent_frame (status (codes "integer_datetimes") (codes "on")) ++ behind_key in
     let encoding = after c.say_ready.result c.say_status.new.out.items c.say_status-2.new.out.items c.say_ready.new.out.items (sent_frame (status (codes "client_encoding") (codes "UTF8"))) behind_times c.in_ok-say_status-2.ensures times in
     let behind_encoding = sent_frame (status (codes "client_encoding") (codes "UTF8")) ++ behind_times in
-    let version = after c.say_ready.result c.say_authenticated.new.out.items c.say_status.new.out.items c.say_ready.new.out.items (sent_frame (status (codes "server_version") (codes "13.0"))) behind_encoding c.in_ok-say_status.ensures encoding in
-    after c.say_ready.result c.args.out.now.items c.say_authenticated.new.out.items c.say_ready.new.out.items (sent_frame AuthenticationOk) (sent_frame (status (codes "server_version") (codes "13.0")) ++ behind_encoding) c.in_ok-say_authenticated.ensures version
+    let version = after c.say_ready.result c.say_authenticated.new.out.items c.say_status.new.out.items c.say_ready.new.out.items (sent_frame (status (codes "server_version") (codes "15.0"))) behind_encoding c.in_ok-say_status.ensures encoding in
+    after c.say_ready.result c.args.out.now.items c.say_authenticated.new.out.items c.say_ready.new.out.items (sent_frame AuthenticationOk) (sent_frame (status (codes "server_version") (codes "15.0")) ++ behind_encoding) c.in_ok-say_authenticated.ensures version
