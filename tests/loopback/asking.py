@@ -135,9 +135,14 @@ def questions_are_refused_where_they_may_not_be(pubd, subcat):
         wrong += wrong_texts(client, [(text, SYNTAX, "syntax error") for text, _ in ANSWERED_LATER])
         wrong += wrong_texts(client, [("SELECT 1", SYNTAX, "syntax error")])
         client.close()
-        path = PATH.replace("'", "\\'")
-        told = [f": {path}: C1: syntax error: --answer-postgresql answers it", ": SELECT 1: C1: syntax error", " closed by its client"]
+        told = [f": {shown(PATH)}: C1: syntax error: --answer-postgresql answers it", ": SELECT 1: C1: syntax error", " closed by its client"]
+        told += [f": {shown(text)}: C1: syntax error" for text, _ in ANSWERED_LATER]
         return wrong + server.end(ended=[f"pubd: connection 1{each}" for each in told])
+
+
+def shown(text):
+    """A text as a message shows it."""
+    return text.replace("'", "\\'").replace("\n", "\\n")
 
 
 def wrong_texts(client, due):
