@@ -14,18 +14,17 @@ class Measures:
         self.early, self.seconds = None, 60 * minutes
         print(f"{'min':>4} {'commits':>9} {'lag, s':>7} {'MiB':>6} {'files':>6} {'threads':>8}", flush=True)
 
-    def look(self, committed, followers):
-        """A line a minute; what is wrong with the page, if anything is."""
+    def look(self, committed):
+        """A line a minute."""
         passed = time.monotonic() - self.begun
         if self.early is None and passed >= PART * self.seconds:
             self.early = self.taken()
         if passed < self.next:
-            return []
+            return
         self.next += 60
         memory, files, threads = self.taken()
         lag = self.lag()
         print(f"{passed / 60:4.0f} {len(committed):9} {lag:7.1f} {memory / 1024:6.1f} {files:6} {threads:8}", flush=True)
-        return []
 
     def taken(self):
         """KiB of memory, open files and threads."""
