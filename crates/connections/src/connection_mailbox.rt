@@ -2,9 +2,9 @@
 
 use crate::fault::ConnectionEnd;
 use crate::inbox::{Inbox, Work};
-use crate::reading::left_until;
+use crate::socket::reading::left_until;
 use bytes::BytesMut;
-use clocks::clock_now;
+use copyboth::clock_now;
 use server::Phase;
 use std::alloc::Global;
 use std::mem;

@@ -14,15 +14,15 @@ use Rattle.shared_log.specs.declared.name.LogName as log_name
 use Rattle.shared_log.proofs.reader.LogReader.TheSendSync as reader
 use Rattle.slots.specs.declared.rule.SlotName as slot_name
 use Rattle.reorder.proofs.reorder.Reorder.TheSendSync as reorder
-use Rattle.walsender.proofs.outgoing.Outgoing.TheSendSync as outgoing
+use Rattle.walsender.proofs.held.outgoing.Outgoing.TheSendSync as outgoing
 use Rattle.walsender.specs.contracts.sender.Sender as sender
 use Rattle.walsender.specs.contracts.sender.Sender.TheInside as inside
 use Rattle.walsender.specs.contracts.walsender.Walsender as walsender
 use Rattle.connections.specs.contracts.connection_mailbox.ConnectionMailbox as mailbox
 use Rattle.connections.proofs.Crossing.{arrival_sync, hold_send, inbox_send}
 use Rattle.server_state.proofs.Crossing.{server_state_sync, selection_send}
-use Rattle.hub.specs.contracts.new_stream.NewStream as new_stream
-use Rattle.hub.specs.contracts.streaming.Stream as stream
+use Rattle.hub.specs.contracts.stream.new_stream.NewStream as new_stream
+use Rattle.hub.specs.contracts.stream.streaming.Stream as stream
 use Rattle.hub.specs.contracts.hub.Hub as hub
 
 -- ---- closures, by what they capture

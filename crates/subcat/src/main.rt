@@ -101,6 +101,7 @@ fn options_of<'a>(
         create: words.create,
         slot: words.slot,
         position: parse_position(words.position).map_err(|_| Fault::Position)?,
+        system: None,
         publications: words.publications,
         messages: words.messages,
         count: count_in(words.count)?,
