@@ -4,7 +4,7 @@ use crate::fault::ConnectionEnd;
 use crate::inbox::{Inbox, Work};
 use crate::reading::left_until;
 use bytes::BytesMut;
-use clocks::clock_now;
+use copyboth::clock_now;
 use server::Phase;
 use std::alloc::Global;
 use std::mem;

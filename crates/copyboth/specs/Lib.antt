@@ -3,3 +3,4 @@ pub mod Keepalive
 pub mod Server
 pub mod Status
 pub mod Reading
+pub mod Clocks

@@ -12,7 +12,7 @@ use crate::options::Options;
 use crate::output::Output;
 use crate::peer::Peer;
 use crate::resume_point::ResumePoint;
-use clocks::clock_now;
+use copyboth::clock_now;
 use std::alloc::Global;
 use std::random::RandomSource;
 use std::sync::Wait;

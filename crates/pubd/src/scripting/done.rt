@@ -4,7 +4,7 @@ use super::outcome::Done;
 use super::refusal::Refusal;
 use super::step::Steering;
 use crate::ending::ListenerHandles;
-use clocks::clock_now;
+use copyboth::clock_now;
 use hub::{Hub, SteerFault};
 use pqformat::Text;
 use schedule::{Answer, Event, SessionStep, Sessions, WorldFault};

@@ -1,13 +1,9 @@
 //! The clock of the replication protocol: microseconds since the beginning of 2000-01-01 (PostgreSQL 15, 55.4), whatever leap
-//! seconds there were, as Unix counts.
-//!
-//! `clock_now` asks the system, and `clock_of` turns seconds and nanoseconds into the protocol's number. Above, only that is
-//! used: a clock is a number that any stream may carry, so one that jumps back breaks nothing.
-#![tactic(auto)]
+//! seconds there were, as Unix counts. Above, only the number is used: one that jumps back breaks nothing.
 
 ghost use Rattle.std.specs.Prelude.{◌≡◌};
 ghost use Rattle.core.specs.Duration.{as_nanos};
-ghost use Rattle.clocks.specs.Clocks.{clock_at};
+ghost use Rattle.copyboth.specs.Clocks.{clock_at};
 
 use std::time::{Clock, Duration};
 
