@@ -5,6 +5,7 @@ pub mod Once
 pub mod Promise
 pub mod Requests
 pub mod Retrying
+pub mod Rows
 pub mod Standing
 pub mod TextLines
 pub mod LineKind

@@ -13,6 +13,7 @@ mod asking;
 mod authenticating;
 mod delivery;
 mod fault;
+mod follower;
 mod following;
 mod form;
 mod giving;
@@ -31,22 +32,27 @@ mod request;
 mod resume_point;
 mod resuming;
 mod retrying;
+mod row;
 mod sasl_response;
 mod send_times;
 mod startup;
 mod stream_receiver;
 mod streamed;
 mod text_form;
+mod told_tables;
+mod transaction;
 mod transcript;
 mod whole;
 
 pub use fault::{FollowFault, OtherSystem, ServerError};
+pub use follower::Follower;
 pub use following::follow;
 pub use form::Form;
 pub use login_fault::LoginFault;
 pub use options::Options;
 pub use output::Output;
 pub use peer::Peer;
+pub use pgoutput::{Cell, Message};
 pub use promise::{
     a_run_goes_on_behind_the_last_whole_one, each_transaction_is_printed_once,
     each_transaction_stands_once_over_kills, no_acknowledgement_is_ahead, no_transaction_is_lost,
@@ -54,3 +60,5 @@ pub use promise::{
 pub use resume_point::ResumePoint;
 pub use resuming::{Subscription, resume};
 pub use retrying::{LONGEST_PAUSE, Pauses, SHORTEST_PAUSE};
+pub use row::Row;
+pub use transaction::{Change, Transaction};

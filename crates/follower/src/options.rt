@@ -27,3 +27,22 @@ pub struct Options<'a> {
     /// What is proved to a server that asks for a password.
     pub password: Option<&'a [u8]>,
 }
+
+impl<'a> Options<'a> {
+    /// Of a slot, which is created unless it is there, and of these publications, from where the slot is confirmed on and for good, by
+    /// a user of the slot's name without a password. What is printed is text.
+    pub fn new(slot: &'a str, publications: &'a str) -> Self {
+        Options {
+            create: true,
+            slot,
+            position: 0,
+            publications,
+            messages: false,
+            count: u32::MAX,
+            form: Form::Text,
+            send_times: false,
+            user: slot,
+            password: None,
+        }
+    }
+}

@@ -20,3 +20,18 @@ pub trait Output: Write {
         ensures written { Keeps (Self.contents self.old) (Self.contents self.new) }
         ensures kept { OnOk result (kept self.new ≡ Self.contents self.new) };
 }
+
+/// What is printed into memory stands there as long as the program runs.
+impl Output for Vec<u8> {
+    ghost use Rattle.std.specs.Prelude.{Some};
+
+    ghost kept = { λ lines. Some lines.items };
+
+    fn keep_system(&mut self, _system: &str) -> io::Result<()> {
+        Ok(())
+    }
+
+    fn keep(&mut self) -> io::Result<()> {
+        Ok(())
+    }
+}

@@ -1,19 +1,26 @@
 //! What the connections of a publisher are served from, for whoever runs it.
 
-ghost use Rattle.std.specs.Prelude.{◌≡◌, IfOk, IfSome, None, vec_len};
+ghost use Rattle.std.specs.Prelude.{◌≡◌, IfOk};
 ghost use Rattle.server_state.specs.Ending.{HasBegun};
-ghost use Rattle.server_state.specs.Notices.{IsWoken};
-ghost use Rattle.txlog.specs.Giving.{GivesBack};
 
+use crate::listener_handle::ListenerHandle;
 use authentication::User;
 use pqformat::Items;
-use server_state::{HubBuilder, HubFault, HubStatus, ServerState, SteerFault, Transaction, Woken};
+use server_state::{
+    HubBuilder, HubFault, HubStatus, ServerState, SteerFault, Transaction, Writing,
+};
 use shared_log::LogName;
 use slots::SlotName;
 use std::alloc::{AllocError, Global};
-use std::sync::{Mutex, Wait};
+use std::sync::Wait;
+use std::thread;
 use std::time::{Clock, Duration};
-use txlog::{Publisher, Receipt, SessionFault};
+use txlog::SessionFault;
+
+/// How long the connections have to take what is left for them, before they are cut off: so many rests of so many milliseconds.
+const RESTS: u32 = 200;
+
+const REST: u64 = 50;
 
 /// What the connections of a publisher share: its log and rows, its slots, its publications, and what commits and notes tell.
 ///
@@ -47,35 +54,10 @@ impl<L: LogName + SlotName> Hub<L> {
 
     // ---- what is written
 
-    /// What sessions call, one thread at a time. Each receipt of a commit goes to `tell`, and where the log ends after a note or an
-    /// abort to `tell_end`.
-    pub fn publisher(&self) -> &Mutex<Publisher<L>> {
-        &self.server_state.publisher
-    }
-
-    /// Gives the records back that no slot, no stream and no transaction in progress needs, where many have come since that was done
-    /// last, or the log has no room. A `transaction` and a `note` do so first; who has the publisher's lock calls it before it writes.
-    /// Answers the position for which the log is kept, if it was looked.
-    pub fn make_room<R: Wait>(&self, rt: &R, publisher: &mut Publisher<L>) -> Option<u64>
-        ensures gives { IfSome result (λ least. GivesBack least publisher.old publisher.new) }
-        ensures none { result ≡ None → publisher.new ≡ publisher.old }
-    {
-        self.server_state.make_room(rt, publisher)
-    }
-
-    /// A commit leaves its receipt: streams read on up to it, at least.
-    pub fn tell<R: Wait + Clock>(&self, rt: &R, receipt: Receipt<L>) -> Woken
-        ensures { IsWoken (vec_len self.now.server_state.latches) receipt.end result }
-    {
-        self.server_state.tell(rt, receipt)
-    }
-
-    /// A note or an abort leaves where the log ended right after it, and no receipt: streams read on up to there, at least, so that
-    /// their clients can confirm it.
-    pub fn tell_end<R: Wait + Clock>(&self, rt: &R, end: u64) -> Woken
-        ensures { IsWoken (vec_len self.now.server_state.latches) end result }
-    {
-        self.server_state.tell_end(rt, end)
+    /// Holds the publisher, once there is room for a record where there can be, for whoever keeps sessions of its own. A service writes
+    /// by `transaction` and `note`.
+    pub fn write<'h, R: Wait>(&'h self, rt: &'h R) -> Writing<'h, L, R> {
+        self.server_state.write(rt)
     }
 
     /// Begins a transaction, once no other is in progress by this way. Refused in this order: `TooManyLive` (S10), `LogFull` (S7),
@@ -180,25 +162,23 @@ impl<L: LogName + SlotName> Hub<L> {
 
     // ---- how the server ends
 
-    /// From now on no connection is served but those that are. Each stream sends what is held and what the log has, and CopyDone;
-    /// then its connection is closed, and each other one at once. `serve` returns once its listener gave one more socket and all
-    /// connections have ended.
-    pub fn shut_down<R: Wait>(&self, rt: &R) {
+    /// Ends the server: no connection is served but those that are, and nobody waits at the listener. Each stream sends what is
+    /// held and what the log has, and CopyDone; then its connection is closed, and each other one at once. Ten seconds later the
+    /// connections that aren't over are cut off.
+    pub fn stop<R: Wait + Clock>(&self, rt: &R, listener: &ListenerHandle) {
         self.server_state.shut_down(rt);
+        listener.shut();
+        for _ in 0..RESTS {
+            if self.server_state.is_deserted(rt) {
+                return;
+            }
+            thread::sleep(rt, Duration::from_millis(REST));
+        }
+        self.server_state.cut_off(rt);
     }
 
-    /// Whether `shut_down` was called.
+    /// Whether `stop` was called.
     pub fn is_ending(&self) -> bool {
         self.server_state.is_ending()
-    }
-
-    /// Whether no connection is served.
-    pub fn is_deserted<R: Wait>(&self, rt: &R) -> bool {
-        self.server_state.is_deserted(rt)
-    }
-
-    /// Closes the connections that are served, whatever is still held for them.
-    pub fn cut_off<R: Wait>(&self, rt: &R) {
-        self.server_state.cut_off(rt);
     }
 }

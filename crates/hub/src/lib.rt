@@ -14,10 +14,13 @@ mod demand;
 mod grant;
 mod granting;
 mod hub;
+mod listener_handle;
 mod new_stream;
 mod read_loop;
 mod refusals;
 mod server_host;
+mod service;
+mod service_hub;
 mod serving;
 mod starting;
 mod stream_backend;
@@ -30,10 +33,15 @@ pub use connections::{
     AcceptError, ConnectionEnd, NoopObserver, RefusedCommand, ServerObserver, Unserved,
 };
 pub use hub::Hub;
+pub use listener_handle::ListenerHandle;
+pub use named_rows::{Datum, FieldFault, NamedDatum, RowView, field};
 pub use server::Refusal;
 pub use server_host::ServerHost;
 pub use server_state::{
-    EndFault, HubBuilder, HubFault, HubSettings, HubStatus, Savepoint, ServeFault, SlotStatus,
-    SteerFault, Transaction, Woken,
+    ChangeFault, ConfigurationFault, EndFault, HubBuilder, HubFault, HubSettings, HubStatus, Left,
+    Savepoint, ServeFault, SlotStatus, SteerFault, Transaction, Writing,
 };
+pub use service::{HubName, Service};
+pub use service_hub::{WithHubFault, with_hub};
 pub use serving::serve;
+pub use txlog::SessionFault;

@@ -16,20 +16,18 @@ use std::thread;
 use std::thread::Threads;
 use std::time::Clock;
 
-/// Takes so many connections from the listener, one after another, and serves each from the hub by a reading and a writing
-/// thread. It returns when all of them have ended.
+/// Takes connections from the listener, one after another, and serves each from the hub by a reading and a writing thread. It
+/// takes no more after `Hub::stop`, or after as many as `HubSettings::connections` says, and returns when all of them have ended.
 ///
 /// A connection counts once both of its threads run. One that can't have them, or comes where `max_connections` are served, is
 /// told so (53300) and closed, and the observer is told why; so it is where the listener can't give one for now. Then the next is
 /// taken. One too many is heard out by a thread of its own before it is told, as long as few are. A failed read or write ends its
-/// connection alone, and the observer is told how each has ended. An error means that the listener gives no more; it is answered once
-/// the connections that were taken have ended. After `Hub::shut_down` none is taken, and the next that comes is closed without a
-/// word.
+/// connection alone, and the observer is told how each has ended. An error means that the listener gives no more, though nobody ended
+/// the server; it is answered once the connections that were taken have ended.
 pub fn serve<L, G, R>(
     rt: &R,
     listener: &TcpListener,
     hub: &Hub<L>,
-    connections: u32,
     observer: &G,
 ) -> Result<(), ServeFault>
 where
@@ -44,7 +42,7 @@ where
         let mut ended = Ok(());
         let mut taken = Taken::nobody();
         for _ in rt.forever() {
-            if connections <= taken.served || server_state.is_ending() {
+            if !server_state.takes_more(taken.served) {
                 break;
             }
             match server_state.arrives(rt, listener, observer, shared) {
@@ -64,7 +62,7 @@ where
                 }
                 Ok(None) => {}
                 Err(fault) => {
-                    ended = Err(fault);
+                    ended = server_state.of_listener(fault);
                     break;
                 }
             }

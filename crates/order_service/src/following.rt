@@ -1,6 +1,6 @@
 //! Two followers, each with a slot of its own.
 
-use follower::{FollowFault, Form, Options, follow};
+use follower::{FollowFault, Options, Subscription, resume};
 use hub::ServerHost;
 use std::alloc::Global;
 use std::net::{Net, SocketAddr, TcpListener, TcpStream};
@@ -9,34 +9,6 @@ use std::sync::Wait;
 use std::thread;
 use std::time::Clock;
 
-/// Follows all tables and messages, through the four transactions and the note that the service commits.
-const ALL: Options<'static> = Options {
-    create: true,
-    slot: "warehouse",
-    position: 0,
-    publications: "all",
-    messages: true,
-    count: 5,
-    form: Form::Text,
-    send_times: false,
-    user: "warehouse",
-    password: None,
-};
-
-/// Follows the large orders, of which there are two.
-const LARGE: Options<'static> = Options {
-    create: true,
-    slot: "sales",
-    position: 0,
-    publications: "large",
-    messages: false,
-    count: 2,
-    form: Form::Text,
-    send_times: false,
-    user: "sales",
-    password: None,
-};
-
 /// What the followers got, a line each message.
 #[derive(Drop)]
 pub struct Followed {
@@ -44,15 +16,21 @@ pub struct Followed {
     pub large: Vec<u8>,
 }
 
-/// Both followers, side by side.
+/// Both followers, side by side: of all tables and messages, through the four transactions and the note that the service commits;
+/// and of the large orders, of which there are two.
 pub fn follow_both<R>(rt: &R, alloc: Global, address: SocketAddr) -> Result<Followed, FollowFault>
 where
     R: ServerHost,
 {
+    let mut all = Options::new("warehouse", "all");
+    all.messages = true;
+    all.count = 5;
+    let mut large = Options::new("sales", "large");
+    large.count = 2;
     let (all, large) = thread::join(
         rt,
-        || follow_one(rt, alloc, address, &ALL),
-        || follow_one(rt, alloc, address, &LARGE),
+        || follow_one(rt, alloc, address, &all),
+        || follow_one(rt, alloc, address, &large),
     );
     Ok(Followed {
         all: all?,
@@ -70,7 +48,15 @@ where
     R: Net<Listener = TcpListener, Stream = TcpStream> + Wait + Clock + RandomSource,
 {
     let mut socket = TcpStream::connect(rt, address).map_err(FollowFault::Connection)?;
+    let mut subscription = Subscription::new(alloc, options);
     let mut lines = Vec::new(alloc);
-    follow(rt, alloc, &mut socket, options, &mut lines)?;
+    resume(
+        rt,
+        alloc,
+        &mut socket,
+        options,
+        &mut subscription,
+        &mut lines,
+    )?;
     Ok(lines)
 }

@@ -1,84 +1,86 @@
 //! The service's own thread: each order is a transaction, and each article of it stands after a savepoint.
 
 use crate::fault::OrderFault;
-use crate::service::FOLLOWERS;
-use crate::shop::{
-    LINE_TABLE, ORDER_TABLE, STOCK_TABLE, line_row, order_row, pieces_and_price, stock_key,
-    stock_row,
-};
-use crate::stock::{ORDERS, Order, STOCK};
-use hub::{Hub, Transaction};
-use shared_log::LogName;
-use slots::SlotName;
-use std::alloc::Global;
+use crate::stock::{ORDERS, STOCK};
+use hub::{Hub, HubName, Service, Transaction, field};
 use std::sync::Wait;
 use std::time::Clock;
-use tables::Row;
 
-/// Fills the stock and takes all orders, once both followers have their streams: what is committed before reaches nobody. Of an
-/// order that isn't placed nothing is left but a note.
-pub fn take_orders<L, R>(rt: &R, alloc: Global, hub: &Hub<L>) -> Result<(), OrderFault>
-where
-    L: LogName + SlotName,
-    R: Wait + Clock,
-{
-    hub.await_streams(rt, u64::from(FOLLOWERS));
-    fill_stock(rt, alloc, hub)?;
-    for order in &ORDERS {
-        match take_order(rt, alloc, hub, order) {
-            Ok(()) => {}
-            Err(OrderFault::SoldOut) => {
-                hub.note(rt, "sold out", order.customer.as_bytes())?;
-            }
-            Err(fault) => return Err(fault),
+/// How many streams are awaited before the first order: what is committed before reaches nobody.
+const FOLLOWERS: u64 = 2;
+
+#[derive(Clone, Copy)]
+struct Order<'a> {
+    id: i32,
+    customer: &'a str,
+    articles: &'a [&'a str],
+}
+
+/// Fills the stock and takes all orders.
+#[derive(Drop)]
+pub struct Orders {}
+
+impl Service for Orders {
+    type Output = Result<(), OrderFault>;
+
+    fn run<L: HubName, R: Wait + Clock>(self, rt: &R, hub: &Hub<L>) -> Result<(), OrderFault> {
+        hub.await_streams(rt, FOLLOWERS);
+        fill_stock(rt, hub)?;
+        for (id, customer, articles) in &ORDERS {
+            let order = Order {
+                id: *id,
+                customer: *customer,
+                articles: *articles,
+            };
+            take_order(rt, hub, &order)?;
         }
+        Ok(())
     }
-    Ok(())
 }
 
-fn fill_stock<L, R>(rt: &R, alloc: Global, hub: &Hub<L>) -> Result<(), OrderFault>
+fn fill_stock<L: HubName, R: Wait + Clock>(rt: &R, hub: &Hub<L>) -> Result<(), OrderFault> {
+    let mut tx = hub.transaction(rt)?;
+    let filled = insert_stock(&mut tx);
+    tx.end_at(0, filled)
+}
+
+/// Of an order that isn't placed nothing is left but a note.
+fn take_order<L, R>(rt: &R, hub: &Hub<L>, order: &Order<'_>) -> Result<(), OrderFault>
 where
-    L: LogName + SlotName,
+    L: HubName,
     R: Wait + Clock,
 {
     let mut tx = hub.transaction(rt)?;
-    let filled = insert_stock(alloc, &mut tx);
-    tx.end(0, filled)
+    let placed = place(&mut tx, order);
+    match tx.end_at(i64::from(order.id), placed) {
+        Err(OrderFault::SoldOut) => {
+            hub.note(rt, "sold out", order.customer.as_bytes())?;
+            Ok(())
+        }
+        taken => taken,
+    }
 }
 
-fn take_order<L, R>(rt: &R, alloc: Global, hub: &Hub<L>, order: &Order) -> Result<(), OrderFault>
-where
-    L: LogName + SlotName,
-    R: Wait + Clock,
-{
-    let mut tx = hub.transaction(rt)?;
-    let placed = place(alloc, &mut tx, order);
-    tx.end(i64::from(order.id), placed)
-}
-
-fn insert_stock<L: LogName + SlotName, R: Wait>(
-    alloc: Global,
-    tx: &mut Transaction<'_, L, R>,
-) -> Result<(), OrderFault> {
-    for article in &STOCK {
-        let row = stock_row(alloc, article.name, article.pieces, article.price)?;
-        tx.insert(STOCK_TABLE, row)?;
+fn insert_stock<L: HubName, R: Wait>(tx: &mut Transaction<'_, L, R>) -> Result<(), OrderFault> {
+    for (article, pieces, price) in &STOCK {
+        let (article, pieces) = (field("article", *article), field("pieces", *pieces));
+        tx.insert("shop.stock", &[article, pieces, field("price", *price)])?;
     }
     Ok(())
 }
 
 /// Places an order of what is there, with a message that tells this transaction from others. What was done for an article that is
 /// sold out reaches no follower.
-fn place<L: LogName + SlotName, R: Wait>(
-    alloc: Global,
-    tx: &mut Transaction<'_, L, R>,
-    order: &Order,
-) -> Result<(), OrderFault> {
+fn place<L, R>(tx: &mut Transaction<'_, L, R>, order: &Order<'_>) -> Result<(), OrderFault>
+where
+    L: HubName,
+    R: Wait,
+{
     tx.message("order", order.customer.as_bytes())?;
     let mut total: i64 = 0;
     for article in order.articles {
         let savepoint = tx.savepoint()?;
-        let placed = place_one(alloc, tx, order, article);
+        let placed = place_one(tx, order, article);
         match tx.end_savepoint(savepoint, placed) {
             Ok(price) => total = total.saturating_add(price),
             Err(OrderFault::SoldOut) => {}
@@ -88,44 +90,42 @@ fn place<L: LogName + SlotName, R: Wait>(
     if total == 0 {
         return Err(OrderFault::SoldOut);
     }
-    tx.insert(ORDER_TABLE, order_row(alloc, order, total)?)?;
-    Ok(())
+    let (id, customer) = (field("id", order.id), field("customer", order.customer));
+    Ok(tx.insert("shop.orders", &[id, customer, field("total", total)])?)
 }
 
 /// Writes a line of the order, takes the piece for it out of the stock, and answers its price.
-fn place_one<L: LogName + SlotName, R: Wait>(
-    alloc: Global,
+fn place_one<L, R>(
     tx: &mut Transaction<'_, L, R>,
-    order: &Order,
+    order: &Order<'_>,
     article: &str,
-) -> Result<i64, OrderFault> {
-    tx.insert(LINE_TABLE, line_row(alloc, order, article)?)?;
-    let key = stock_key(alloc, article)?;
-    take_piece(alloc, tx, article, &key)
-}
-
-fn take_piece<L: LogName + SlotName, R: Wait>(
-    alloc: Global,
-    tx: &mut Transaction<'_, L, R>,
-    article: &str,
-    key: &Row,
-) -> Result<i64, OrderFault> {
-    let (left, price) = left_and_price(tx, key)?;
-    let row = stock_row(alloc, article, left, price)?;
-    tx.update(STOCK_TABLE, key, row)?;
-    Ok(price)
-}
-
-/// How many pieces are left of an article once one is taken, and what one costs.
-fn left_and_price<L: LogName + SlotName, R: Wait>(
-    tx: &Transaction<'_, L, R>,
-    key: &Row,
-) -> Result<(i32, i64), OrderFault> {
-    let Some((pieces, price)) = tx.get(STOCK_TABLE, key).and_then(pieces_and_price) else {
-        return Err(OrderFault::SoldOut);
-    };
+) -> Result<i64, OrderFault>
+where
+    L: HubName,
+    R: Wait,
+{
+    let name = field("article", article);
+    tx.insert("shop.lines", &[field("order_id", order.id), name])?;
+    let (pieces, price) = stock_of(tx, article)?;
     if pieces <= 0 {
         return Err(OrderFault::SoldOut);
     }
-    Ok((pieces - 1, price))
+    let left = field("pieces", pieces - 1);
+    tx.update("shop.stock", &[name], &[name, left, field("price", price)])?;
+    Ok(price)
+}
+
+/// How many pieces of an article are left, and what one costs.
+fn stock_of<L, R>(tx: &Transaction<'_, L, R>, article: &str) -> Result<(i32, i64), OrderFault>
+where
+    L: HubName,
+    R: Wait,
+{
+    match tx.get("shop.stock", &[field("article", article)])? {
+        Some(row) => match (row.int4("pieces"), row.int8("price")) {
+            (Some(pieces), Some(price)) => Ok((pieces, price)),
+            _ => Err(OrderFault::SoldOut),
+        },
+        None => Err(OrderFault::SoldOut),
+    }
 }

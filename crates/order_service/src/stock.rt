@@ -1,56 +1,13 @@
 //! What is in stock, and what is ordered.
 
-/// An article, how many pieces of it there are, and what one costs.
-pub struct Article {
-    pub name: &'static str,
-    pub pieces: i32,
-    pub price: i64,
-}
+/// Each article, how many pieces of it there are, and what one costs.
+pub const STOCK: [(&str, i32, i64); 3] = [("desk", 2, 220), ("kettle", 5, 40), ("lamp", 1, 35)];
 
-pub struct Order {
-    pub id: i32,
-    pub customer: &'static str,
-    pub articles: &'static [&'static str],
-}
-
-pub const STOCK: [Article; 3] = [
-    Article {
-        name: "desk",
-        pieces: 2,
-        price: 220,
-    },
-    Article {
-        name: "kettle",
-        pieces: 5,
-        price: 40,
-    },
-    Article {
-        name: "lamp",
-        pieces: 1,
-        price: 35,
-    },
-];
-
-/// The first takes the last lamp: of the second order only the desk is left, and of the third nothing.
-pub const ORDERS: [Order; 4] = [
-    Order {
-        id: 1,
-        customer: "Ada",
-        articles: &["kettle", "lamp"],
-    },
-    Order {
-        id: 2,
-        customer: "Ben",
-        articles: &["lamp", "desk"],
-    },
-    Order {
-        id: 3,
-        customer: "Cleo",
-        articles: &["lamp"],
-    },
-    Order {
-        id: 4,
-        customer: "Dan",
-        articles: &["desk", "kettle"],
-    },
+/// Each order's number, its customer and its articles. The first takes the last lamp: of the second order only the desk is left, and
+/// of the third nothing.
+pub const ORDERS: [(i32, &str, &[&str]); 4] = [
+    (1, "Ada", &["kettle", "lamp"]),
+    (2, "Ben", &["lamp", "desk"]),
+    (3, "Cleo", &["lamp"]),
+    (4, "Dan", &["desk", "kettle"]),
 ];

@@ -3,47 +3,20 @@
 use crate::scripting::InputLines;
 use crate::termination::Termination;
 use crate::user_file::UserFile;
-use hub::Hub;
+use hub::{Hub, ListenerHandle};
 use shared_log::LogName;
 use slots::SlotName;
 use std::alloc::{AllocError, Global};
-use std::net::{Shutdown, SocketAddr, TcpListener, TcpStream};
-use std::os::fd::OwnedFd;
+use std::io;
+use std::net::TcpListener;
 use std::sync::atomic::{AtomicBool, Ordering};
 use std::sync::{Arc, Wait};
-use std::time::{Clock, Duration};
-use std::{io, thread};
+use std::time::Clock;
 
-/// How long the connections have to take what is left for them, before they are closed: so many rests of so many milliseconds.
-const RESTS: u32 = 200;
-
-const REST: u64 = 50;
-
-/// Where a listener waits: its address, and a second handle of its socket.
-#[derive(Drop)]
-pub struct ListenerHandle {
-    pub address: SocketAddr,
-    socket: TcpStream,
-}
-
-impl ListenerHandle {
-    fn of(listener: &TcpListener) -> io::Result<Self> {
-        Ok(ListenerHandle {
-            address: listener.local_addr()?,
-            socket: TcpStream::from(OwnedFd::from(listener.try_clone()?)),
-        })
-    }
-
-    fn of_any(listener: Option<&TcpListener>) -> io::Result<Option<Self>> {
-        match listener {
-            Some(listener) => Ok(Some(ListenerHandle::of(listener)?)),
-            None => Ok(None),
-        }
-    }
-
-    /// No connection comes by it any more: Linux has whoever waits there see a fault of the listener.
-    fn shut(&self) {
-        let _ = self.socket.shutdown(Shutdown::Both);
+fn handle_of(listener: Option<&TcpListener>) -> io::Result<Option<ListenerHandle>> {
+    match listener {
+        Some(listener) => Ok(Some(ListenerHandle::of(listener)?)),
+        None => Ok(None),
     }
 }
 
@@ -72,7 +45,7 @@ impl ListenerHandles {
         status: Option<&TcpListener>,
         passwords: Option<UserFile>,
     ) -> io::Result<Self> {
-        let status = ListenerHandle::of_any(status)?;
+        let status = handle_of(status)?;
         let input = input_of(host.alloc())?;
         let termination = Termination::new(host.alloc())?;
         Ok(ListenerHandles {
@@ -120,14 +93,6 @@ where
     L: LogName + SlotName,
     R: Wait + Clock,
 {
-    hub.shut_down(rt);
     listeners.input.close(rt);
-    listeners.connections.shut();
-    for _ in 0..RESTS {
-        if hub.is_deserted(rt) {
-            return;
-        }
-        thread::sleep(rt, Duration::from_millis(REST));
-    }
-    hub.cut_off(rt);
+    hub.stop(rt, &listeners.connections);
 }

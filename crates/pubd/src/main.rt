@@ -207,7 +207,6 @@ where
         listener,
         page,
         listeners: &listeners,
-        connections: asked.numbers.connections,
         awaited: asked.numbers.awaited,
         level: asked.numbers.level,
         scripts: asked.scripts,
@@ -339,6 +338,7 @@ fn limit(settings: &mut HubSettings, numbers: &Numbers) {
     settings.authentication_timeout = numbers
         .authentication_timeout
         .unwrap_or(settings.authentication_timeout);
+    settings.connections = numbers.connections;
     settings.max_connections = numbers.max_connections.unwrap_or(settings.max_connections);
     settings.max_replication_slots = numbers
         .max_replication_slots
@@ -356,7 +356,6 @@ struct Service<'a> {
     /// Where it is told what runs.
     page: Option<&'a TcpListener>,
     listeners: &'a ListenerHandles,
-    connections: u32,
     awaited: u64,
     level: Level,
     scripts: &'a [Script],
@@ -543,17 +542,14 @@ where
     R: Threads + Wait + Clock + RandomSource + Sync,
 {
     let reports = Reports::new(rt, hub.alloc(), told, service.level);
-    let served = serve(rt, service.listener, hub, service.connections, &reports);
+    let served = serve(rt, service.listener, hub, &reports);
     service.listeners.end_connections();
     hub.end_awaiting(rt);
     service.listeners.close_status();
     service.listeners.termination.close(rt);
-    match served {
-        Err(fault) if !hub.is_ending() => {
-            told.line(rt, format_args!("pubd: {fault}"));
-            early.store(true, Ordering::SeqCst);
-        }
-        _ => {}
+    if let Err(fault) = served {
+        told.line(rt, format_args!("pubd: {fault}"));
+        early.store(true, Ordering::SeqCst);
     }
 }
 

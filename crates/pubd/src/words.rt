@@ -51,7 +51,7 @@ pub struct Words<'a> {
 pub struct Numbers {
     pub address: SocketAddr,
     pub status: Option<SocketAddr>,
-    pub connections: u32,
+    pub connections: Option<u32>,
     pub awaited: u64,
     pub level: Level,
     pub wal_sender_timeout: Option<Duration>,
@@ -108,12 +108,13 @@ impl<'a> Words<'a> {
         }
     }
 
-    fn connections(&self) -> Result<u32, NumberFault> {
+    /// None: for ever.
+    fn connections(&self) -> Result<Option<u32>, NumberFault> {
         if self.connections == FOREVER {
-            return Ok(u32::MAX);
+            return Ok(None);
         }
         match count_of(self.connections) {
-            Some(count) if count <= MOST_CONNECTIONS => Ok(count),
+            Some(count) if count <= MOST_CONNECTIONS => Ok(Some(count)),
             _ => Err(NumberFault::Connections),
         }
     }

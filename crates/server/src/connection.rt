@@ -9,8 +9,8 @@ ghost use Rattle.server.specs.declared.service.Dialect.TheVariants.{Commands};
 ghost use Rattle.server.specs.declared.stage.Stage.TheVariants.{Fresh, Closed};
 
 use crate::backend::Backend;
+use crate::ending::say_ended;
 use crate::fault::ConnFault;
-use crate::say::say_ended;
 use crate::service::{Dialect, Service};
 use crate::stage::{Stage, Turned};
 use crate::turn::turn;

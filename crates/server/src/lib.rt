@@ -16,6 +16,7 @@ mod backend_fault;
 mod connection;
 mod conversation;
 mod database;
+mod ending;
 mod extended;
 mod fault;
 mod list;
@@ -44,12 +45,12 @@ pub use backend::Backend;
 pub use backend_fault::{BackendFault, StartAhead};
 pub use connection::{Connection, Phase};
 pub use conversation::{Event, converse};
+pub use ending::say_ended;
 pub use fault::ConnFault;
 pub use question::{Question, no_text_asks_two_questions, question_of};
 pub use refusal::Refusal;
 pub use say::{
-    say_created, say_dropped, say_ended, say_greeting, say_identified, say_refused,
-    say_refused_ready,
+    say_created, say_dropped, say_greeting, say_identified, say_refused, say_refused_ready,
 };
 pub use say_answers::{
     say_found_tables, say_other_greeting, say_path_set, say_publications, say_shown,

@@ -5,16 +5,15 @@ ghost use Rattle.std.specs.List.{AllByRecursion};
 ghost use Rattle.frames.specs.Frame.{FitsLength};
 ghost use Rattle.frames.specs.Back.{HasCounts, back_body};
 ghost use Rattle.frames.specs.declared.data_row.DataValue.TheVariants.{Bytes};
-ghost use Rattle.frames.specs.declared.back.Back.TheVariants.{AuthenticationOk, ErrorResponse as ErrorFrame, CopyDone};
+ghost use Rattle.frames.specs.declared.back.Back.TheVariants.{AuthenticationOk, ErrorResponse as ErrorFrame};
 ghost use Rattle.pqformat.specs.Putting.{Puts};
 ghost use Rattle.replcmd.specs.Position.{position_text};
-ghost use Rattle.server.specs.Said.{sent_frame, error_frame, error_of_refusal, error_and_ready, ready, greeting, completion, status, column_of, text_type, int4_type, IsSmall, identity_columns, identity_values, slot_columns, slot_values, key_frame, columns_frame, values_frame, slot_made, answer_to_identify, answer_to_create, answer_to_drop, copied, end_of_stream};
+ghost use Rattle.server.specs.Said.{sent_frame, error_frame, error_of_refusal, error_and_ready, ready, greeting, completion, status, column_of, text_type, int4_type, IsSmall, identity_columns, identity_values, slot_columns, slot_values, key_frame, columns_frame, values_frame, slot_made, answer_to_identify, answer_to_create, answer_to_drop};
 
 use crate::answer_rows::{identity_columns, identity_values, slot_columns, slot_values};
 use crate::backend_fault::BackendFault;
 use crate::naming::say_slot_refused;
 use crate::refusal::Refusal;
-use crate::service::Dialect;
 use bytes::BytesMut;
 use frames::{
     Back, BackendKeyData, ColumnDescription, ColumnType, CommandComplete, DataRow, DataValue,
@@ -245,36 +244,6 @@ pub fn say_dropped(
         }
         Err(fault) => say_slot_refused(alloc, out, fault, slot),
     }
-}
-
-#[tactic(auto, using(pqformat::proofs::Putting::in_place), unfolding(pqformat::specs::Fields::int32))]
-fn say_copy_done(out: &mut BytesMut) -> Result<(), AllocError>
-    ensures { Puts result out.old.items out.new.items (sent_frame CopyDone) }
-{
-    say(out, Back::CopyDone)
-}
-
-/// That a stream is copied, which the commands alone don't tell.
-#[tactic(auto, using(pqformat::proofs::Putting::in_place))]
-fn say_copied(alloc: Global, out: &mut BytesMut, dialect: Dialect) -> Result<(), AllocError>
-    ensures { Puts result out.old.items out.new.items (copied dialect) }
-{
-    match dialect {
-        Dialect::Commands => Ok(()),
-        Dialect::Questions => say_completed(alloc, out, "COPY 0"),
-    }
-}
-
-/// The end of a stream (PostgreSQL 15, 55.2.6 and 55.4). `AllocError` where memory is refused; some of it may have been added
-/// then.
-#[tactic(auto, using(pqformat::proofs::Putting::in_place), unfolding(crate::specs::Said::end_of_stream))]
-pub fn say_ended(alloc: Global, out: &mut BytesMut, dialect: Dialect) -> Result<(), AllocError>
-    ensures { Puts result out.old.items out.new.items (end_of_stream dialect) }
-{
-    say_copy_done(out)?;
-    say_copied(alloc, out, dialect)?;
-    say_completed(alloc, out, "START_REPLICATION")?;
-    say_ready(out)
 }
 
 pub(crate) fn position_value(alloc: Global, position: u64) -> Result<DataValue, AllocError>

@@ -1,4 +1,5 @@
 pub mod Crossing
 pub mod Ends
 pub mod Marks
+pub mod Refused
 pub mod Telling

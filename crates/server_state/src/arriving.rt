@@ -45,6 +45,15 @@ impl<L: LogName + SlotName> ServerState<L> {
         }
     }
 
+    /// What a broken listener means: nothing, once the server ends.
+    pub fn of_listener(&self, fault: ServeFault) -> Result<(), ServeFault> {
+        if self.is_ending() {
+            drop(fault);
+            return Ok(());
+        }
+        Err(fault)
+    }
+
     /// Which place a connection has whose socket has come.
     fn takes<G: ServerObserver, R: Wait>(
         &self,

@@ -134,6 +134,7 @@ fn settings_for(records: usize) -> HubSettings {
         wal_sender_timeout: Duration::from_secs(WAL_SENDER_TIMEOUT),
         authentication_timeout: Duration::from_secs(AUTHENTICATION_TIMEOUT),
         max_connections: MAX_CONNECTIONS,
+        connections: None,
         max_replication_slots: MAX_REPLICATION_SLOTS,
         max_wal_senders: MAX_WAL_SENDERS,
         chunks: CHUNKS,

@@ -9,7 +9,10 @@
 
 mod arriving;
 mod at_once;
+mod change_fault;
+mod changing;
 mod commit_notice;
+mod configured;
 mod ended;
 mod ending;
 mod fault;
@@ -33,9 +36,12 @@ mod steering;
 mod strangers;
 mod system;
 mod transaction;
+mod writing;
 
 pub use arriving::Place;
+pub use change_fault::ChangeFault;
 pub use commit_notice::CommitNotice;
+pub use configured::ConfigurationFault;
 pub use fault::{EndFault, HubFault, ServeFault, SteerFault};
 pub use hub_builder::HubBuilder;
 pub use pool::ReaderSeat;
@@ -48,3 +54,4 @@ pub use spreading::Woken;
 pub use status::{HubStatus, SlotStatus};
 pub use system::SystemName;
 pub use transaction::{Savepoint, Transaction};
+pub use writing::{Left, Writing};

@@ -1,7 +1,6 @@
 //! What the connections of a hub have in common, and who waits for what.
 
-ghost use Rattle.std.specs.Prelude.{◌≡◌, vec_len};
-ghost use Rattle.server_state.specs.Notices.{IsWoken};
+ghost use Rattle.std.specs.Prelude.{◌≡◌};
 
 use crate::at_once::AtOnce;
 use crate::commit_notice::CommitNotice;
@@ -12,7 +11,6 @@ use crate::owned_names::OwnedNames;
 use crate::pool::Pool;
 use crate::settings::HubSettings;
 use crate::shared::{Places, Shared};
-use crate::spreading::{Unheard, Woken};
 use crate::system::SystemName;
 use authentication::Users;
 use connections::{ConnectionMailbox, Latch, SlotMonitor, Sockets};
@@ -24,7 +22,7 @@ use std::alloc::Global;
 use std::sync::atomic::{AtomicBool, AtomicU32, AtomicU64, AtomicUsize, Ordering};
 use std::sync::{Condvar, Mutex, Wait};
 use std::time::{Clock, Duration};
-use txlog::{Publisher, Receipt};
+use txlog::Publisher;
 
 /// The log and rows of a hub, its slots, its publications, and what commits and notes tell. It isn't `Drop`: `close` ends it.
 pub struct ServerState<L: LogName + SlotName> {
@@ -32,8 +30,7 @@ pub struct ServerState<L: LogName + SlotName> {
     pub publications: Publications,
     pub system: SystemName,
     pub settings: HubSettings,
-    /// What sessions call, one thread at a time. Each receipt of a commit goes to `tell`, and where the log ends after a note or an
-    /// abort to `tell_end`.
+    /// What sessions call, one thread at a time.
     pub publisher: Mutex<Publisher<L>>,
     pub slots: SlotTable<L>,
     pub(crate) pool: Mutex<Pool<L>>,
@@ -219,27 +216,18 @@ impl<L: LogName + SlotName> ServerState<L> {
         true
     }
 
+    /// Whether one more connection is taken after so many that were served.
+    pub fn takes_more(&self, served: u32) -> bool {
+        let is_enough = self.settings.connections.is_some_and(|most| most <= served);
+        !is_enough && !self.is_ending()
+    }
+
     /// A connection is served no more.
     pub fn dismiss(&self) {
         self.served.fetch_sub(1, Ordering::SeqCst);
     }
 
     // ---- what threads wait for
-
-    /// A commit leaves its receipt: streams read on up to it, at least.
-    pub fn tell<R: Wait + Clock>(&self, rt: &R, receipt: Receipt<L>) -> Woken
-        ensures { IsWoken (vec_len self.now.latches) receipt.end result }
-    {
-        self.spread(rt, Unheard::of_commit(receipt))
-    }
-
-    /// A note or an abort leaves where the log ended right after it, and no receipt: streams read on up to there, at least, so that
-    /// their clients can confirm it.
-    pub fn tell_end<R: Wait + Clock>(&self, rt: &R, end: u64) -> Woken
-        ensures { IsWoken (vec_len self.now.latches) end result }
-    {
-        self.spread(rt, Unheard::of_end(end))
-    }
 
     /// The connection of the stream with this latch has something to do.
     pub fn tell_work<R: Wait>(&self, rt: &R, latch: usize) {

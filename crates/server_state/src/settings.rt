@@ -11,6 +11,8 @@ pub struct HubSettings {
     pub authentication_timeout: Duration,
     /// How many connections may be served at once: 100, unless it is set.
     pub max_connections: u32,
+    /// After how many connections no more are taken, and the server ends with the last of them: any number, unless it is set.
+    pub connections: Option<u32>,
     /// How many slots there may be at once: 16, unless it is set, and at most 1,024.
     pub max_replication_slots: u32,
     /// How many streams may run at once: 16, unless it is set, and at most 1,024.

@@ -9,8 +9,11 @@ ghost use Rattle.txlog.specs.Rows.{rows_of};
 use crate::ended::ended;
 use crate::fault::EndFault;
 use crate::server_state::ServerState;
+use catalog::Catalog;
+use copyboth::clock_now;
 use shared_log::LogName;
 use slots::SlotName;
+use std::alloc::Global;
 use std::marker::Model;
 use std::sync::{MutexGuard, Wait};
 use std::time::Clock;
@@ -74,9 +77,20 @@ impl<L: LogName + SlotName> ServerState<L> {
 }
 
 impl<'h, L: LogName + SlotName, R: Wait> Transaction<'h, L, R> {
+    /// The tables that it may change.
+    pub(crate) fn catalog(&self) -> &Catalog
+        ensures { result.now ≡ self.now.publisher.tables }
+    {
+        self.publisher.catalog()
+    }
+
+    pub(crate) fn alloc(&self) -> Global {
+        self.server_state.alloc
+    }
+
     /// The row with this key, with what this transaction has done. The key's values stand in table order. None where there is no
     /// such row, or no such table.
-    pub fn get(&self, table: u32, key: &Row) -> Option<&Row>
+    pub(crate) fn row(&self, table: u32, key: &Row) -> Option<&Row>
         ensures { let at = self.now.publisher in
             option_copied result
             ≡ rows_of at.tables at.log (record { oid = table; values = key.now }) }
@@ -86,7 +100,7 @@ impl<'h, L: LogName + SlotName, R: Wait> Transaction<'h, L, R> {
 
     /// Refused in this order: `UnknownTable` (S1), `RowShape` (S2) where the row doesn't fit the table, `TooLarge` (S6), `KeyHeld`
     /// (S5) where another transaction holds its key or the table, `DuplicateKey` (S3), `LogFull` (S7), `Memory` (S11).
-    pub fn insert(&mut self, table: u32, row: Row) -> Result<(), SessionFault>
+    pub(crate) fn insert_row(&mut self, table: u32, row: Row) -> Result<(), SessionFault>
         ensures ok { OnOk result
             (self.new ≡ writes (λ xid. after_change xid (Change.Insert table row)) self.old) }
         ensures err { OnErr result (self.new ≡ self.old) }
@@ -99,7 +113,7 @@ impl<'h, L: LogName + SlotName, R: Wait> Transaction<'h, L, R> {
     /// The row with this key becomes this one. Refused in this order: `UnknownTable` (S1), `RowShape` (S2) where the key or the row
     /// doesn't fit the table, `TooLarge` (S6), `KeyHeld` (S5) where another transaction holds one of the two keys or the table,
     /// `NoSuchRow` (S4), `DuplicateKey` (S3), `LogFull` (S7), `Memory` (S11).
-    pub fn update(&mut self, table: u32, key: &Row, row: Row) -> Result<(), SessionFault>
+    pub(crate) fn update_row(&mut self, table: u32, key: &Row, row: Row) -> Result<(), SessionFault>
         ensures ok { OnOk result
             (self.new ≡ writes
             (λ xid. after_update xid (record { oid = table; values = key.now }) row) self.old) }
@@ -114,7 +128,7 @@ impl<'h, L: LogName + SlotName, R: Wait> Transaction<'h, L, R> {
 
     /// Refused in this order: `UnknownTable` (S1), `RowShape` (S2) where the key doesn't fit the table, `KeyHeld` (S5) where
     /// another transaction holds it or the table, `NoSuchRow` (S4), `LogFull` (S7), `Memory` (S11).
-    pub fn delete(&mut self, table: u32, key: &Row) -> Result<(), SessionFault>
+    pub(crate) fn delete_row(&mut self, table: u32, key: &Row) -> Result<(), SessionFault>
         ensures ok { OnOk result
             (self.new ≡ writes
             (λ xid. after_delete xid (record { oid = table; values = key.now })) self.old) }
@@ -129,7 +143,7 @@ impl<'h, L: LogName + SlotName, R: Wait> Transaction<'h, L, R> {
     /// Empties these tables, and holds them. Refused in this order: `UnknownTable` (S1), `RowShape` (S2) where no table is named or
     /// one twice, `TooLarge` (S6) where too many are, `KeyHeld` (S5) where another transaction holds one of them or a key there,
     /// `LogFull` (S7), `Memory` (S11).
-    pub fn truncate(&mut self, tables: &[u32]) -> Result<(), SessionFault>
+    pub(crate) fn truncate_tables(&mut self, tables: &[u32]) -> Result<(), SessionFault>
         ensures ok { OnOk result
             (self.new ≡ writes (λ xid. after_change xid (Change.Truncate tables.now)) self.old) }
         ensures err { OnErr result (self.new ≡ self.old) }
@@ -211,12 +225,25 @@ impl<'h, L: LogName + SlotName, R: Wait> Transaction<'h, L, R> {
 }
 
 impl<'h, L: LogName + SlotName, R: Wait + Clock> Transaction<'h, L, R> {
-    /// Ends the transaction with what came of its work. At `Ok` it commits at this time, in microseconds since 2000-01-01, and
-    /// the streams read on after it; at `Err` it is aborted, and nothing of it stands. A commit that is refused is an abort
+    /// Ends the transaction with what came of its work. At `Ok` it commits at the time of the clock, and the streams read
+    /// on after it; at `Err` it is aborted, and nothing of it stands. A commit that is refused is an abort
     /// (`Aborted`, with the commit's `SessionFault`). Where memory is refused for that too, the error is `Unended`, whatever the
     /// work answered.
+    pub fn end<T, E>(self, done: Result<T, E>) -> Result<T, E>
+    where
+        T: Drop,
+        E: From<EndFault> + Drop,
+        ensures ok { OnOk result ((result ≡ done) × (self.entry.spoilt ≡ None)) }
+        ensures err { IfErr result
+            (λ e. (done ≡ Err e) ⊎ ((fault : EndFault) × E.from_gives fault e)) }
+    {
+        let time = clock_now(self.rt, 0);
+        self.end_at(time, done)
+    }
+
+    /// The same, with a commit at this time, in microseconds since 2000-01-01.
     #[tactic(auto, using(crate::proofs::Ends::told_by))]
-    pub fn end<T, E>(self, time: i64, done: Result<T, E>) -> Result<T, E>
+    pub fn end_at<T, E>(self, time: i64, done: Result<T, E>) -> Result<T, E>
     where
         T: Drop,
         E: From<EndFault> + Drop,

@@ -7,11 +7,11 @@ use std::net::{SocketAddr, TcpListener};
 use std::test::Fail;
 use std::{io, thread};
 
-/// Serves so many connections, and calls the clients with the address meanwhile. It returns once all connections have ended.
+/// Serves as many connections as the hub's settings say, and calls the clients with the address meanwhile. It returns once all
+/// connections have ended.
 pub fn serve_beside<L, R, G, C, T>(
     rt: &R,
     hub: &Hub<L>,
-    connections: u32,
     observer: &G,
     clients: C,
 ) -> Result<T, Fail>
@@ -28,7 +28,7 @@ where
     let bound = &listener;
     let (served, answered) = thread::join(
         rt,
-        || serve(rt, bound, hub, connections, observer),
+        || serve(rt, bound, hub, observer),
         || clients(address),
     );
     served?;

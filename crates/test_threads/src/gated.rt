@@ -107,13 +107,7 @@ where
     let gate = Held::new(rt);
     let held = &gate;
     let hub = Hub::<L>::open(rt, opened)?;
-    let asked = serve_beside(
-        rt,
-        &hub,
-        2,
-        held,
-        |address| ask_both(rt, alloc, held, address),
-    );
+    let asked = serve_beside(rt, &hub, held, |address| ask_both(rt, alloc, held, address));
     hub.close(rt);
     asked
 }

@@ -26,6 +26,8 @@ mod peer;
 #[cfg(test)]
 mod receipt_calls;
 #[cfg(test)]
+mod service_calls;
+#[cfg(test)]
 mod slot_calls;
 #[cfg(test)]
 mod snapshot_calls;

@@ -5,13 +5,13 @@ use super::refusal::Refusal;
 use super::step::Steering;
 use crate::ending::ListenerHandles;
 use copyboth::clock_now;
-use hub::{Hub, SteerFault};
+use hub::{Hub, Left, SteerFault};
 use pqformat::Text;
 use schedule::{Answer, Event, SessionStep, Sessions, WorldFault};
 use shared_log::LogName;
 use slots::SlotName;
 use std::alloc::AllocError;
-use std::sync::{MutexGuard, Wait};
+use std::sync::Wait;
 use std::time::Clock;
 use txlog::Receipt;
 
@@ -63,24 +63,46 @@ pub(crate) fn commit_now<L: LogName + SlotName, R: Wait + Clock>(
     do_event(rt, hub, sessions, &event)
 }
 
-/// Does a session's line under the publisher's lock, once there is room for it where there can be, and tells streams of its commit
-/// or its note. `AllocError` where memory to keep its transaction is refused (V2).
+/// Does a session's line under the publisher's lock, once there is room for it where there can be. `AllocError` where memory to
+/// keep its transaction is refused (V2).
 pub(crate) fn do_event<L: LogName + SlotName, R: Wait + Clock>(
     rt: &R,
     hub: &Hub<L>,
     sessions: &mut Sessions,
     event: &Event,
 ) -> Result<Done, AllocError> {
-    let mut publisher = hub.publisher().lock(rt);
-    hub.make_room(rt, &mut publisher);
-    let done = sessions.line(rt, &mut publisher, event);
-    let (log_end, kept) = (publisher.end(), publisher.kept());
-    MutexGuard::unlock(publisher);
-    match done {
-        Ok((answer, Some(receipt))) => Ok(tell_commit(rt, hub, answer, receipt, kept)),
-        Ok((answer, None)) => Ok(tell_end(rt, hub, event, answer, log_end)),
-        Err(WorldFault::BadEvent) => Ok(Done::Refused(not_now(event))),
-        Err(WorldFault::Memory | WorldFault::NoEntry) => Err(AllocError),
+    let mut writing = hub.write(rt);
+    let line = sessions.line(rt, &mut writing.publisher, event);
+    let (done, left) = done_by(event, line, writing.publisher.kept());
+    writing.end(left);
+    done
+}
+
+/// What a session's line comes to, in a log of which so many records are kept, and what it leaves for streams.
+fn done_by<L: LogName>(
+    event: &Event,
+    line: Result<(Answer, Option<Receipt<L>>), WorldFault>,
+    kept: usize,
+) -> (Result<Done, AllocError>, Left<L>) {
+    match line {
+        Ok((answer, Some(receipt))) => {
+            let done = committed(&answer, receipt.end(), kept);
+            (Ok(done), Left::Commit(receipt))
+        }
+        Ok((Answer::Session(fault), None)) => {
+            (Ok(Done::Refused(Refusal::Session(fault))), Left::Nothing)
+        }
+        Ok((_, None)) => (Ok(Done::Line), left_by(event)),
+        Err(WorldFault::BadEvent) => (Ok(Done::Refused(not_now(event))), Left::Nothing),
+        Err(WorldFault::Memory | WorldFault::NoEntry) => (Err(AllocError), Left::Nothing),
+    }
+}
+
+/// A note or an abort that was done leaves where the log ends; other lines leave nothing.
+fn left_by<L: LogName>(event: &Event) -> Left<L> {
+    match event {
+        Event::Note(_, _) | Event::Session(_, SessionStep::Abort) => Left::End,
+        _ => Left::Nothing,
     }
 }
 
@@ -92,38 +114,10 @@ fn not_now(event: &Event) -> Refusal {
     }
 }
 
-/// A commit leaves its receipt, in a log of which so many records are kept.
-fn tell_commit<L: LogName + SlotName, R: Wait + Clock>(
-    rt: &R,
-    hub: &Hub<L>,
-    answer: Answer,
-    receipt: Receipt<L>,
-    kept: usize,
-) -> Done {
-    let end = receipt.end();
-    hub.tell(rt, receipt);
+/// What a commit came to, after which the log ends there.
+fn committed(answer: &Answer, end: u64, kept: usize) -> Done {
     match answer {
-        Answer::Session(fault) => Done::Refused(Refusal::Session(fault)),
+        Answer::Session(fault) => Done::Refused(Refusal::Session(*fault)),
         _ => Done::Commit { end, kept },
     }
-}
-
-/// A note or an abort that was done leaves where the log ends; other lines leave nothing.
-fn tell_end<L: LogName + SlotName, R: Wait + Clock>(
-    rt: &R,
-    hub: &Hub<L>,
-    event: &Event,
-    answer: Answer,
-    log_end: u64,
-) -> Done {
-    if let Answer::Session(fault) = answer {
-        return Done::Refused(Refusal::Session(fault));
-    }
-    if matches!(
-        event,
-        Event::Note(_, _) | Event::Session(_, SessionStep::Abort)
-    ) {
-        hub.tell_end(rt, log_end);
-    }
-    Done::Line
 }

@@ -3,7 +3,7 @@ use Rattle.std.specs.Prelude.{codes}
 use Rattle.frames.specs.declared.back.Back.TheVariants.{CopyDone}
 use Rattle.server.specs.Said.{sent_frame, ready, completion, copied, end_of_stream}
 use Rattle.server.proofs.Tails.{after}
-use Rattle.server.proofs.say.say_ended.Goals as goal
+use Rattle.server.proofs.ending.say_ended.Goals as goal
 
 pub returns : goal.returns
 unfolding end_of_stream

@@ -1,0 +1,103 @@
+//! A row of a stream, whose values are asked for by the names of their columns.
+
+ghost use Rattle.std.specs.Prelude.{◌≡◌, ◌&&◌, IfSome, Some, position};
+ghost use Rattle.std.specs.Option.{option_copied};
+ghost use Rattle.std.specs.Str.{bytes_eq};
+ghost use Rattle.pgoutput.specs.declared.tuple.Cell.TheVariants as cells;
+ghost use Rattle.follower.specs.Rows.{cell_named};
+
+use pgoutput::{Cell, Column, Relation};
+
+/// The OIDs of the types with values of Rust (PostgreSQL 15, pg_type).
+const BOOL_OID: u32 = 16;
+
+const INT8_OID: u32 = 20;
+
+const INT2_OID: u32 = 21;
+
+const INT4_OID: u32 = 23;
+
+/// A row of a table, or what is told of the old one: its key, or all of it.
+#[derive(Clone, Copy)]
+pub struct Row<'a> {
+    pub(crate) relation: &'a Relation,
+    pub(crate) cells: &'a [Cell],
+}
+
+impl<'a> Row<'a> {
+    /// Whether it is of the table of this schema and name.
+    pub fn is_of(&self, schema: &str, name: &str) -> bool
+        ensures { result
+            ≡ (bytes_eq self.now.relation.now.namespace schema.now
+            && bytes_eq self.now.relation.now.name name.now) }
+    {
+        self.relation.namespace.as_str() == schema && self.relation.name.as_str() == name
+    }
+
+    /// What was sent of the column of this name: null, a text, or that it is unchanged and not sent. None where there is no such column.
+    pub fn cell(&self, column: &str) -> Option<&'a Cell>
+        ensures { option_copied result
+            ≡ cell_named self.now.relation.now.columns self.now.cells.now column.now }
+    {
+        self.cells
+            .get(place_of(self.relation.columns.as_slice(), column)?)
+    }
+
+    /// The text of the column of this name, as PostgreSQL prints a value of its type; None where none was sent.
+    pub fn text(&self, column: &str) -> Option<&'a str>
+        ensures { IfSome result (λ text.
+            cell_named self.now.relation.now.columns self.now.cells.now column.now
+            ≡ Some (cells.Text text.now)) }
+    {
+        match self.cell(column)? {
+            Cell::Text(text) => Some(text.as_str()),
+            Cell::Null | Cell::Unchanged => None,
+        }
+    }
+
+    /// The bool in the column of this name; None where it isn't one.
+    pub fn bool(&self, column: &str) -> Option<bool> {
+        match self.text_of_type(column, BOOL_OID)? {
+            "t" => Some(true),
+            "f" => Some(false),
+            _ => None,
+        }
+    }
+
+    /// The int2 in the column of this name; None where it isn't one.
+    pub fn int2(&self, column: &str) -> Option<i16> {
+        self.text_of_type(column, INT2_OID)?.parse::<i16>().ok()
+    }
+
+    /// The int4 in the column of this name; None where it isn't one.
+    pub fn int4(&self, column: &str) -> Option<i32> {
+        self.text_of_type(column, INT4_OID)?.parse::<i32>().ok()
+    }
+
+    /// The int8 in the column of this name; None where it isn't one.
+    pub fn int8(&self, column: &str) -> Option<i64> {
+        self.text_of_type(column, INT8_OID)?.parse::<i64>().ok()
+    }
+
+    /// The text of the column of this name, if it is of the type of this OID.
+    fn text_of_type(&self, column: &str, oid: u32) -> Option<&'a str>
+        ensures { IfSome result (λ text.
+            cell_named self.now.relation.now.columns self.now.cells.now column.now
+            ≡ Some (cells.Text text.now)) }
+    {
+        let columns = self.relation.columns.as_slice();
+        if columns.get(place_of(columns, column)?)?.kind != oid {
+            return None;
+        }
+        self.text(column)
+    }
+}
+
+/// Where the column of this name stands.
+fn place_of(columns: &[Column], name: &str) -> Option<usize>
+    ensures { result ≡ position (λ c. bytes_eq c.name name.now) columns.now }
+{
+    columns
+        .iter()
+        .position(|column| column.name.as_str() == name)
+}
