@@ -5,5 +5,6 @@ pub mod Projection
 pub mod Logged
 pub use Rattle.publication_config.specs.Published
 pub mod Choosing
+pub mod Copied
 pub use Rattle.publication_config.specs.Config
 pub use Rattle.publication_config.specs.Faults

@@ -4,9 +4,11 @@
 //! change is published, and `Selection::put` writes its message, filtered and projected.
 //!
 //! Read `publications.rt`, `selection.rt`, `putting.rt`; specs/Logged.antt says which message a change becomes. Above,
-//! `walsender` uses one contract: `put` writes exactly the message of the definition, or none where there is none.
+//! `walsender` uses one contract: `put` writes exactly the message of the definition, or none where there is none. `copied.rt` makes the
+//! selection of an initial copy.
 #![tactic(auto)]
 
+mod copied;
 mod judging;
 mod logged;
 mod messages;

@@ -24,9 +24,9 @@ use toml::Value;
 /// A configuration names them, and `select` may be called any number of times. It changes nothing, whatever it answers.
 #[derive(Drop)]
 pub struct Publications {
-    alloc: Global,
-    tables: Items<Table>,
-    publications: Items<Publication>,
+    pub(crate) alloc: Global,
+    pub(crate) tables: Items<Table>,
+    pub(crate) publications: Items<Publication>,
 }
 
 impl Model for Publications {
@@ -142,7 +142,7 @@ impl Publications {
     }
 }
 
-fn copies(alloc: Global, tables: &[Table]) -> Result<Items<Table>, AllocError>
+pub(crate) fn copies(alloc: Global, tables: &[Table]) -> Result<Items<Table>, AllocError>
     ensures { IfOk result (λ ts. ts ≡ tables.now) }
 {
     let mut copies = Vec::with_capacity(alloc, tables.len())?;

@@ -11,9 +11,7 @@ use pqformat::{Items, Text};
 use publication::{Publications, Selection};
 use server::{BackendFault, TableColumns, TableName};
 use std::alloc::{AllocError, Global};
-
-/// The most columns of a table.
-const MOST_COLUMNS: usize = 64;
+use tables::MAX_COLUMNS;
 
 /// The tables of the publications of these names, each once, with their columns that are published. P2 where two of those have
 /// different column lists for one of them.
@@ -74,7 +72,7 @@ fn names_of(alloc: Global, columns: &[Column]) -> Result<Items<Text>, AllocError
     ensures few { IfOk result (λ names. length names ≤ 64) }
     ensures short { IfOk result (λ names. AllByRecursion (λ name. length name ≤ 63) names) }
 {
-    if columns.len() > MOST_COLUMNS {
+    if columns.len() > MAX_COLUMNS {
         return Err(AllocError);
     }
     let mut names = Vec::new(alloc);

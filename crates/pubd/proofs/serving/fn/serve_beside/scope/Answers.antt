@@ -1,8 +1,8 @@
 use Rattle.std.proofs.sync.atomic.AtomicBool.TheSendSync as flag
 use Rattle.hub.proofs.Crossing.{crosses}
-use Rattle.pubd.proofs.Service.TheSendSync as service
+use Rattle.pubd.proofs.serving.Service.TheSendSync as service
 use Rattle.pubd.proofs.telling.Told.TheSendSync as told
-use Rattle.pubd.proofs.fn.serve_beside.scope.Goals as goal
+use Rattle.pubd.proofs.serving.fn.serve_beside.scope.Goals as goal
 
 pub spawn-scripted-requires-send-F : goal.spawn-scripted-requires-send-F
 spawn-scripted-requires-send-F g c κs within = search (crosses, service.the_sync, told.the_sync, flag.the_sync) depth 40
