@@ -21,8 +21,8 @@ use Rattle.walsender.specs.contracts.walsender.Walsender as walsender
 use Rattle.connections.specs.contracts.connection_mailbox.ConnectionMailbox as mailbox
 use Rattle.connections.proofs.Crossing.{arrival_sync, hold_send, inbox_send}
 use Rattle.server_state.proofs.Crossing.{server_state_sync, selection_send}
-use Rattle.hub.specs.contracts.new_stream.NewStream as new_stream
-use Rattle.hub.specs.contracts.streaming.Stream as stream
+use Rattle.hub.specs.contracts.stream.new_stream.NewStream as new_stream
+use Rattle.hub.specs.contracts.stream.streaming.Stream as stream
 use Rattle.hub.specs.contracts.hub.Hub as hub
 
 -- ---- closures, by what they capture

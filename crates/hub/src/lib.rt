@@ -1,33 +1,23 @@
 //! A publisher that many connections are served from: what they share, and two threads for each. Its rules are told in
 //! docs/SERVING.md.
 //!
-//! `serve` takes connections from a listener (`serving.rt`). The reading thread of each (`read_loop.rt`) turns bytes into words
-//! over a `HubBackend`; its writing thread (`write_loop.rt`) sends these and the stream, whose turns `stream_loop.rt` takes. A
-//! START goes through `starting.rt` and `granting.rt`.
+//! `serve` takes connections from a listener (`serving.rt`). The reading thread of each (`connection/read_loop.rt`) turns bytes
+//! into words over a `HubBackend`; its writing thread (`connection/write_loop.rt`) sends these and the stream, whose turns
+//! `stream/stream_loop.rt` takes. A START goes through `stream/starting.rt` and `stream/granting.rt`.
 //!
-//! Read `hub.rt`, `serving.rt`, `read_loop.rt`, `write_loop.rt`, then `stream_loop.rt`, which has the contract that README's
-//! promise stands on: what a connection writes of its stream is one encoding of what the log publishes (`write_stream`: `slot`).
+//! Read `hub.rt`, `serving.rt`, `connection/read_loop.rt`, `connection/write_loop.rt`, then `stream/stream_loop.rt`, which has the
+//! contract that README's promise stands on: what a connection writes of its stream is one encoding of what the log publishes
+//! (`write_stream`: `slot`).
 #![tactic(auto)]
 
-mod backend;
-mod demand;
-mod grant;
-mod granting;
+mod connection;
 mod hub;
 mod listener_handle;
-mod new_stream;
-mod read_loop;
-mod refusals;
 mod server_host;
 mod service;
 mod service_hub;
 mod serving;
-mod starting;
-mod stream_backend;
-mod stream_loop;
-mod streaming;
-mod work_backend;
-mod write_loop;
+mod stream;
 
 pub use connections::{
     AcceptError, ConnectionEnd, NoopObserver, RefusedCommand, ServerObserver, Unserved,

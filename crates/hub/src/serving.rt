@@ -1,10 +1,10 @@
 //! Serving connections: two threads for each.
 
-use crate::granting::end_stream;
+use crate::connection::read_loop::{ReadLoop, read_line};
+use crate::connection::write_loop::{WriteLoop, write_line};
 use crate::hub::Hub;
-use crate::new_stream::NewStream;
-use crate::read_loop::{ReadLoop, read_line};
-use crate::write_loop::{WriteLoop, write_line};
+use crate::stream::granting::end_stream;
+use crate::stream::new_stream::NewStream;
 use connections::{Arrival, ConnectionEnd, ConnectionMailbox, ServerObserver, Unserved};
 use server_state::{Place, ServeFault, ServerState};
 use shared_log::LogName;

@@ -1,9 +1,9 @@
 //! Why the program served nothing, or not to its end, and with which status it then ends.
 
-use crate::command_fault::CommandFault;
-use crate::password::PasswordFault;
+use crate::options::command_fault::CommandFault;
+use crate::options::password::PasswordFault;
+use crate::options::user_file::UserFileFault;
 use crate::scripting::ScriptFileFault;
-use crate::user_file::UserFileFault;
 use command_line::{Ending, WordsFault};
 use configuration::ConfigFileFault;
 use hub::HubFault;

@@ -1,57 +1,37 @@
 //! `pubd CONFIG ADDR CONNECTIONS [SCRIPT]...` serves replication connections, and runs scripts beside them.
 //!
-//! `main.rt` reads the command line (`command.rt`), `opening.rt` makes the hub that it asks for, and `serving.rt` starts what runs
-//! beside it: listeners, scripts (`scripting/`), the status page (`status_page.rt`, `status_text.rt`), and reports on standard error
-//! (`reports.rt`); `beginning.rt` starts the threads that nobody joins. `ending.rt` ends all of it in order.
+//! `main.rt` reads the command line (`options/`), `running/opening.rt` makes the hub that it asks for, and `running/serving.rt`
+//! starts what runs beside it: listeners, scripts (`scripting/`), the status page (`status/`), and reports on standard error
+//! (`standard_error/`). `running/ending.rt` ends all of it in order.
 //!
-//! Read `main.rt`, `command.rt`, `serving.rt`, `scripts.rt`, `ending.rt`. One contract is used: a session's line of a script is a
-//! call of `schedule::Sessions::line`; of sockets and threads, runs tell.
+//! Read `main.rt`, `options/command.rt`, `running/serving.rt`, `running/scripts.rt`, `running/ending.rt`. One contract is used: a
+//! session's line of a script is a call of `schedule::Sessions::line`; of sockets and threads, runs tell.
 #![tactic(auto)]
 
-mod asker;
-mod beginning;
-mod command;
-mod command_fault;
-mod descriptors;
-mod ending;
 mod fault;
-mod help;
-mod host;
-mod level;
-mod log_watch;
-mod naming;
-mod opening;
-mod password;
-mod questions;
-mod reports;
+mod options;
+mod running;
 mod scripting;
-mod scripts;
-mod serving;
-mod sizes;
-mod status_page;
-mod status_service;
-mod status_text;
-mod talk;
-mod telling;
-mod termination;
-mod times;
-mod user_file;
-mod words;
+mod standard_error;
+mod status;
 
-use beginning::{begin_reading, begin_telling, begin_watching};
-use command::words_of;
-use command_fault::CommandFault;
 use command_line::{arguments_of, ended};
 use configuration::config_at;
-use descriptors::open_standard;
-use ending::ListenerHandles;
 use fault::Fault;
-use host::Host;
-use level::Level;
-use opening::opened;
-use password::tell_password;
+use options::command::words_of;
+use options::command_fault::CommandFault;
+use options::password::tell_password;
+use options::user_file::{UserFile, asked_users};
+use options::words::{Numbers, Words};
+use running::beginning::{begin_reading, begin_telling, begin_watching};
+use running::descriptors::open_standard;
+use running::ending::ListenerHandles;
+use running::host::Host;
+use running::opening::opened;
+use running::serving::{Service, served};
 use scripting::{STANDARD_INPUT, Script, scripts_at};
-use serving::{Service, served};
+use standard_error::level::Level;
+use standard_error::telling::Told;
 use std::io;
 use std::marker::Brand;
 use std::net::{Net, SocketAddr, TcpListener, TcpStream};
@@ -60,9 +40,6 @@ use std::random::RandomSource;
 use std::sync::Wait;
 use std::thread::Threads;
 use std::time::Clock;
-use telling::Told;
-use user_file::{UserFile, asked_users};
-use words::{Numbers, Words};
 
 fn main(rt: HostRuntime) -> ExitCode {
     open_standard(&rt);

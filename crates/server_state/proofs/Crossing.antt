@@ -19,12 +19,12 @@ use Rattle.txlog.proofs.publisher.Publisher.TheSendSync as publisher
 use Rattle.connections.proofs.Crossing.{latch_sync, monitor_sync, sockets_sync}
 use Rattle.authentication.proofs.users.Users.TheSendSync as users
 use Rattle.server_state.specs.contracts.server_state.ServerState as server_state
-use Rattle.server_state.specs.contracts.system.SystemName as system
-use Rattle.server_state.proofs.settings.HubSettings.TheSendSync as settings
-use Rattle.server_state.proofs.commit_notice.CommitNotice.TheSendSync as notice
-use Rattle.server_state.proofs.log_times.LogTimes.TheSendSync as times
-use Rattle.server_state.proofs.owned_names.OwnedNames.TheSendSync as names
-use Rattle.server_state.proofs.pool.Pool.TheSendSync as pool
+use Rattle.server_state.specs.contracts.opening.system.SystemName as system
+use Rattle.server_state.proofs.opening.settings.HubSettings.TheSendSync as settings
+use Rattle.server_state.proofs.streams.commit_notice.CommitNotice.TheSendSync as notice
+use Rattle.server_state.proofs.kept.log_times.LogTimes.TheSendSync as times
+use Rattle.server_state.proofs.kept.owned_names.OwnedNames.TheSendSync as names
+use Rattle.server_state.proofs.kept.pool.Pool.TheSendSync as pool
 
 -- ---- publications
 published_send : IsSend published.the_row

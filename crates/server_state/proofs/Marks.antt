@@ -6,7 +6,7 @@ use Rattle.std.proofs.lemmas.List.{take_more}
 use Rattle.std.specs.Prelude.{nat_lt, max, min, if◌then◌else◌}
 use Rattle.std.proofs.lemmas.Bool.Decides.{nat_tests}
 use Rattle.server_state.specs.LogTimes.{IsNoLater, TellNoLater, merged, past}
-use Rattle.server_state.specs.declared.log_times.Mark.{Mark}
+use Rattle.server_state.specs.declared.kept.log_times.Mark.{Mark}
 
 abbrev pub first : Option ℕ → Option ℕ → Option ℕ
 first None b = b

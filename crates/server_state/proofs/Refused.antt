@@ -8,8 +8,8 @@ use Rattle.named_rows.specs.Fields.{key_columns, row_told}
 use Rattle.txlog.specs.declared.fault.SessionFault.{SessionFault}
 use Rattle.txlog.specs.declared.fault.SessionFault.TheVariants as sessions
 use Rattle.txlog.specs.Publishing.{IsRefusalOrMemory, delete_refusal, insert_refusal, update_refusal}
-use Rattle.server_state.specs.declared.change_fault.ChangeFault.{ChangeFault}
-use Rattle.server_state.specs.declared.change_fault.ChangeFault.TheVariants.{Session}
+use Rattle.server_state.specs.declared.sessions.change_fault.ChangeFault.{ChangeFault}
+use Rattle.server_state.specs.declared.sessions.change_fault.ChangeFault.TheVariants.{Session}
 use Rattle.server_state.specs.Changing.{IsAtField, IsAtKey, IsDeleteRefusal, IsInsertRefusal, IsRefused, IsUpdateRefusal, OfTable, key_in}
 use Rattle.server_state.specs.Ending.{TransactionState}
 

@@ -12,8 +12,8 @@ use Rattle.txlog.specs.declared.fault.SessionFault.{SessionFault}
 use Rattle.txlog.specs.declared.fault.SessionFault.TheVariants as sessions
 use Rattle.txlog.specs.Publishing.{IsRefusalOrMemory, after_change, after_delete, after_update, delete_refusal, insert_refusal, update_refusal}
 use Rattle.txlog.specs.Rows.{rows_of}
-use Rattle.server_state.specs.declared.change_fault.ChangeFault.{ChangeFault}
-use Rattle.server_state.specs.declared.change_fault.ChangeFault.TheVariants.{Key as OfKey, Field as OfField, Session}
+use Rattle.server_state.specs.declared.sessions.change_fault.ChangeFault.{ChangeFault}
+use Rattle.server_state.specs.declared.sessions.change_fault.ChangeFault.TheVariants.{Key as OfKey, Field as OfField, Session}
 use Rattle.server_state.specs.Ending.{TransactionState, writes}
 
 -- the table of this name, of which this is true

@@ -1,7 +1,7 @@
 -- When the log came past which position, by marks: where it ended once something was written, and when that was.
 use Rattle.std.specs.Prelude.{◌≡◌, ℕ, ◌≤◌, nat_lt, max, min, List, [], ◌∷◌, ◌++◌, Option, Some, None, if◌then◌else◌, option_to_list}
-use Rattle.server_state.specs.declared.log_times.LogTimes.{LogTimes}
-use Rattle.server_state.specs.declared.log_times.Mark.{Mark}
+use Rattle.server_state.specs.declared.kept.log_times.LogTimes.{LogTimes}
+use Rattle.server_state.specs.declared.kept.log_times.Mark.{Mark}
 
 -- at the first mark that lies further
 abbrev pub past : ℕ → List Mark → Option ℕ

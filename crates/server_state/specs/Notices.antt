@@ -1,7 +1,7 @@
 -- What streams are told of, and which receipt stays of those that commits leave.
 use Rattle.std.specs.Prelude.{◌≡◌, ℕ, ◌≤◌, Option, Some, None, cond, nat_lt}
 use Rattle.txlog.specs.Receipts.{Committed}
-use Rattle.server_state.specs.declared.spreading.Woken.{Woken}
+use Rattle.server_state.specs.declared.streams.spreading.Woken.{Woken}
 
 -- of two receipts the one of the greater place
 abbrev pub greatest : Option Committed → Committed → Committed

@@ -2,7 +2,7 @@
 use Rattle.std.specs.Prelude.{◌≡◌, ℕ, Bool, true, false, cond, List, Option, Some, None}
 use Rattle.std.specs.Str.{bytes_eq}
 use Rattle.std.specs.BTreeMap.{get_by_text}
-use Rattle.server_state.specs.declared.owners.Owners.{Owners}
+use Rattle.server_state.specs.declared.kept.owners.Owners.{Owners}
 
 -- the user that made the slot of a name, where it had to prove its password
 abbrev pub owner_of : Owners → List ℕ → Option (List ℕ)

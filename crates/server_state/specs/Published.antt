@@ -8,7 +8,7 @@ use Rattle.publication.specs.Selection.{selected_oids, selected_table}
 use Rattle.row_messages.specs.Relations.{relation_of}
 use Rattle.server.specs.declared.table_name.TableName.{TableName}
 use Rattle.server.specs.declared.table_name.TableColumns.{TableColumns}
-use Rattle.server_state.specs.declared.published.TheConstants.{MOST_NAME_BYTES}
+use Rattle.server_state.specs.declared.publications.published.TheConstants.{MOST_NAME_BYTES}
 
 -- A publication has this name. PostgreSQL's names are no longer.
 abbrev pub is_publication : PublicationSet → List ℕ → Bool

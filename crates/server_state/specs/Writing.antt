@@ -1,7 +1,7 @@
 -- What a call of the publisher leaves for streams.
 use Rattle.std.specs.Prelude.{ℕ, Option, None, Some}
-use Rattle.server_state.specs.declared.writing.Left.{Left}
-use Rattle.server_state.specs.declared.writing.Left.TheVariants as lefts
+use Rattle.server_state.specs.declared.sessions.writing.Left.{Left}
+use Rattle.server_state.specs.declared.sessions.writing.Left.TheVariants as lefts
 use Rattle.server_state.specs.Notices.{News, news_of_commit, news_of_end}
 
 -- what streams are to be told of it, in a log that ends there

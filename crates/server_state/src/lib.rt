@@ -3,55 +3,33 @@
 //!
 //! `HubBuilder` is what a hub is opened with, and `ServerState` what is made of it. `hub` serves connections from that.
 //!
-//! Read `hub_builder.rt`, `server_state.rt`, `transaction.rt`, `keeping.rt`. Above, one contract is used: a `Transaction` writes
-//! exactly the records that its calls name, and Ok of its end says that they are committed (`ended`).
+//! Read `opening/hub_builder.rt`, `server_state.rt`, `sessions/transaction.rt`, `kept/keeping.rt`. Above, one contract is used: a
+//! `Transaction` writes exactly the records that its calls name, and Ok of its end says that they are committed (`ended`).
 #![tactic(auto)]
 
-mod arriving;
-mod at_once;
-mod change_fault;
-mod changing;
-mod commit_notice;
-mod configured;
-mod ended;
-mod ending;
+mod arrivals;
 mod fault;
-mod giving;
-mod hub_builder;
-mod keeping;
-mod log_times;
-mod noting;
-mod owned_names;
-mod owners;
-mod pool;
-mod published;
-mod published_columns;
-mod refusals;
+mod kept;
+mod opening;
+mod publications;
 mod server_state;
-mod settings;
-mod shared;
-mod spreading;
-mod status;
-mod steering;
-mod strangers;
-mod system;
-mod transaction;
-mod writing;
+mod sessions;
+mod streams;
 
-pub use arriving::Place;
-pub use change_fault::ChangeFault;
-pub use commit_notice::CommitNotice;
-pub use configured::ConfigurationFault;
+pub use arrivals::arriving::Place;
 pub use fault::{EndFault, HubFault, ServeFault, SteerFault};
-pub use hub_builder::HubBuilder;
-pub use pool::ReaderSeat;
-pub use published::{known_names, tables_of};
-pub use published_columns::columns_of;
-pub use refusals::{of_publications, of_slot};
+pub use kept::pool::ReaderSeat;
+pub use opening::configured::ConfigurationFault;
+pub use opening::hub_builder::HubBuilder;
+pub use opening::settings::HubSettings;
+pub use opening::system::SystemName;
+pub use publications::published::{known_names, tables_of};
+pub use publications::published_columns::columns_of;
+pub use publications::refusals::{of_publications, of_slot};
 pub use server_state::ServerState;
-pub use settings::HubSettings;
-pub use spreading::Woken;
-pub use status::{HubStatus, SlotStatus};
-pub use system::SystemName;
-pub use transaction::{Savepoint, Transaction};
-pub use writing::{Left, Writing};
+pub use sessions::change_fault::ChangeFault;
+pub use sessions::transaction::{Savepoint, Transaction};
+pub use sessions::writing::{Left, Writing};
+pub use streams::commit_notice::CommitNotice;
+pub use streams::spreading::Woken;
+pub use streams::status::{HubStatus, SlotStatus};

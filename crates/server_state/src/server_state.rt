@@ -2,16 +2,16 @@
 
 ghost use Rattle.std.specs.Prelude.{◌≡◌};
 
-use crate::at_once::AtOnce;
-use crate::commit_notice::CommitNotice;
 use crate::fault::HubFault;
-use crate::hub_builder::HubBuilder;
-use crate::log_times::LogTimes;
-use crate::owned_names::OwnedNames;
-use crate::pool::Pool;
-use crate::settings::HubSettings;
-use crate::shared::{Places, Shared};
-use crate::system::SystemName;
+use crate::kept::log_times::LogTimes;
+use crate::kept::owned_names::OwnedNames;
+use crate::kept::pool::Pool;
+use crate::opening::at_once::AtOnce;
+use crate::opening::hub_builder::HubBuilder;
+use crate::opening::settings::HubSettings;
+use crate::opening::shared::{Places, Shared};
+use crate::opening::system::SystemName;
+use crate::streams::commit_notice::CommitNotice;
 use authentication::Users;
 use connections::{ConnectionMailbox, Latch, SlotMonitor, Sockets};
 use publication::Publications;

@@ -3,7 +3,7 @@
 use super::outcome::Done;
 use super::refusal::{Refusal, Unmet};
 use super::step::{Await, Until};
-use crate::ending::ListenerHandles;
+use crate::running::ending::ListenerHandles;
 use hub::{Hub, SteerFault};
 use shared_log::LogName;
 use slots::SlotName;

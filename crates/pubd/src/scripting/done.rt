@@ -3,7 +3,7 @@
 use super::outcome::Done;
 use super::refusal::Refusal;
 use super::step::Steering;
-use crate::ending::ListenerHandles;
+use crate::running::ending::ListenerHandles;
 use copyboth::clock_now;
 use hub::{Hub, Left, SteerFault};
 use pqformat::Text;

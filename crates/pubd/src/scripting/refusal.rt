@@ -1,6 +1,6 @@
 //! Why lines are refused.
 
-use crate::user_file::UserFault;
+use crate::options::user_file::UserFault;
 use schedule::BadLine;
 use std::fmt;
 use thiserror::Error;

@@ -1,0 +1,5 @@
+//! A connection: the two threads that serve it, and its backend.
+
+pub(crate) mod backend;
+pub(crate) mod read_loop;
+pub(crate) mod write_loop;

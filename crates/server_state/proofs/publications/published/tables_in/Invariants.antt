@@ -1,0 +1,11 @@
+use Rattle.std.proofs.Common.{◌≡◌, take}
+use Rattle.std.specs.List.{filter_map, AllByRecursion}
+use Rattle.server.specs.Answers.{IsShortName}
+use Rattle.server_state.specs.Published.{told_table}
+use Rattle.server_state.proofs.publications.published.tables_in.Given as goal
+
+abbrev pub invariant-loop-oid : goal.invariant-loop-oid
+invariant-loop-oid l = record {
+  told : l.tables.items ≡ filter_map (told_table l.selection) (take l.oid-index l.oid-items);
+  short : AllByRecursion IsShortName l.tables.items;
+}

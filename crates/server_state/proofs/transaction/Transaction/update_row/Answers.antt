@@ -1,4 +1,0 @@
-use Rattle.server_state.proofs.transaction.Transaction.update_row.Goals as goal
-
-pub returns-clause-refused : goal.returns-clause-refused
-returns-clause-refused g c = rw (← c.self.view_is, ← c.deref_mut.ensures.value) c.update.ensures.refused

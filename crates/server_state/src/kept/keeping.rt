@@ -1,0 +1,166 @@
+//! Slots that are made, found and dropped, and what streams take and give back.
+
+ghost use Rattle.std.specs.Prelude.{◌<◌, IfSome};
+ghost use Rattle.slots.specs.declared.table.TheConstants.{END_OF_PLACES};
+
+use crate::kept::pool::ReaderSeat;
+use crate::server_state::ServerState;
+use connections::{SlotMonitor, has_gone};
+use pqformat::Text;
+use server::BackendFault;
+use shared_log::LogName;
+use slots::{LINES, SlotName};
+use std::alloc::Global;
+use std::net::TcpStream;
+use std::sync::{MutexGuard, Wait};
+use std::time::{Clock, Duration};
+
+/// How many milliseconds a client waits for a slot to be free before it is looked whether it has gone.
+const LOOK: u64 = 100;
+
+impl<L: LogName + SlotName> ServerState<L> {
+    /// Where the log ends.
+    pub fn end_of_log<R: Wait>(&self, rt: &R) -> u64 {
+        let publisher = self.publisher.lock(rt);
+        let end = publisher.end();
+        let _ = MutexGuard::unlock(publisher);
+        end
+    }
+
+    /// Makes a slot of this user, if any, at the log's end, and answers that position. `SlotExists` (L3) where the name is there,
+    /// `NoSlotPlace` (L4) where there are as many slots as may be, or `Memory`.
+    // The publisher is locked until the slot's monitor says what is kept for it, so that nothing of that is given back meanwhile.
+    pub fn create_slot<R: Wait>(
+        &self,
+        rt: &R,
+        name: &str,
+        user: Option<&str>,
+    ) -> Result<u64, BackendFault> {
+        let owner = match user {
+            Some(user) => Some(copied(self.alloc, user)?),
+            None => None,
+        };
+        let publisher = self.publisher.lock(rt);
+        let created = self.create_slot_at(rt, name, owner, publisher.end());
+        let _ = MutexGuard::unlock(publisher);
+        created
+    }
+
+    fn create_slot_at<R: Wait>(
+        &self,
+        rt: &R,
+        name: &str,
+        owner: Option<Text>,
+        end: u64,
+    ) -> Result<u64, BackendFault> {
+        let mut names = self.names.lock(rt);
+        names.create(&self.slots, name, owner, end)?;
+        if let Some(monitor) = self.monitor_at(names.place_of(name)) {
+            monitor.open(rt, Text::copy_of(self.alloc, name).ok(), end);
+        }
+        drop(names);
+        Ok(end)
+    }
+
+    /// Drops a slot. Refused in this order: `NotOwner` (A3) where it is another user's, `SlotMissing` (L1), `SlotInUse` (L2).
+    pub fn drop_slot<R: Wait>(
+        &self,
+        rt: &R,
+        name: &str,
+        user: Option<&str>,
+    ) -> Result<(), BackendFault> {
+        let mut names = self.names.lock(rt);
+        let place = names.drop_slot(&self.slots, name, user)?;
+        if let Some(monitor) = self.monitor_at(Some(place)) {
+            monitor.remove(rt);
+        }
+        drop(names);
+        Ok(())
+    }
+
+    /// Drops a slot once no stream has it. Where the client that asks for that, by this socket, has gone before, or the server ends,
+    /// the slot is in use (`SlotInUse`, L2). Else refused as `drop_slot`.
+    pub fn drop_when_free<R: Wait + Clock>(
+        &self,
+        rt: &R,
+        name: &str,
+        user: Option<&str>,
+        socket: &TcpStream,
+    ) -> Result<(), BackendFault> {
+        let mut dropped = self.drop_slot(rt, name, user);
+        for _ in rt.forever() {
+            if dropped != Err(BackendFault::SlotInUse) {
+                break;
+            }
+            self.await_free(rt, name);
+            if self.is_ending() || has_gone(socket) {
+                break;
+            }
+            // Somebody else may have dropped it.
+            dropped = self.drop_slot(rt, name, user);
+        }
+        dropped
+    }
+
+    /// Waits for a while, at most until no stream of the slot is written.
+    fn await_free<R: Wait + Clock>(&self, rt: &R, name: &str) {
+        if let Some(monitor) = self.monitor_at(self.place_of(rt, name)) {
+            monitor.await_free(rt, Duration::from_millis(LOOK));
+        }
+    }
+
+    /// Whether the stream with this latch is held on purpose.
+    pub fn holds_stream<R: Wait>(&self, rt: &R, latch: usize) -> bool {
+        for monitor in &self.monitors {
+            if monitor.holds(rt, latch) {
+                return true;
+            }
+        }
+        false
+    }
+
+    /// What is known of the slot at a place, and how its stream is steered. None: no place is told.
+    pub fn monitor_at(&self, place: Option<usize>) -> Option<&SlotMonitor> {
+        match place {
+            Some(place) => self.monitors.get(place % LINES),
+            None => None,
+        }
+    }
+
+    /// Whether this user, if any, may use the slot of this name, if there is one.
+    pub fn is_open_to<R: Wait>(&self, rt: &R, name: &str, user: Option<&str>) -> bool {
+        self.names.lock(rt).may_use(name, user)
+    }
+
+    /// Whether a stream of the slot at this place found its chunks full.
+    pub fn was_full<R: Wait>(&self, rt: &R, place: usize) -> bool {
+        match self.monitor_at(Some(place)) {
+            Some(monitor) => monitor.was_full(rt),
+            None => false,
+        }
+    }
+
+    /// The place of the slot of this name. None: there is none.
+    pub fn place_of<R: Wait>(&self, rt: &R, slot: &str) -> Option<usize>
+        ensures { IfSome result (λ place. place < END_OF_PLACES) }
+    {
+        self.names.lock(rt).place_of(slot)
+    }
+
+    /// A reader with a seat for one more stream. None: as many streams run as may.
+    pub fn take_reader_seat<R: Wait>(&self, rt: &R) -> Option<ReaderSeat<L>> {
+        self.pool.lock(rt).take()
+    }
+
+    /// A stream has ended that had these.
+    pub fn give_back<R: Wait>(&self, rt: &R, reader_seat: ReaderSeat<L>) {
+        let _ = self.pool.lock(rt).give_back(reader_seat);
+    }
+}
+
+fn copied(alloc: Global, user: &str) -> Result<Text, BackendFault> {
+    match Text::copy_of(alloc, user) {
+        Ok(user) => Ok(user),
+        Err(_) => Err(BackendFault::Memory),
+    }
+}

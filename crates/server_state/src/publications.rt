@@ -1,0 +1,5 @@
+//! What subscribers ask of the publications, and why it is refused.
+
+pub(crate) mod published;
+pub(crate) mod published_columns;
+pub(crate) mod refusals;
