@@ -12,16 +12,16 @@ use Rattle.slots.proofs.lease.Lease.TheSendSync as lease
 use Rattle.slots.proofs.seat.SlotSeat.TheSendSync as seat
 use Rattle.connections.proofs.fault.ConnectionEnd.TheSendSync as end
 use Rattle.connections.proofs.fault.Unserved.TheSendSync as unserved
-use Rattle.connections.proofs.slot_keeping.SlotKeeping.TheSendSync as keeping
-use Rattle.connections.specs.contracts.arrival.Arrival as arrival
-use Rattle.connections.specs.contracts.arrival.Arriving as arriving
-use Rattle.connections.specs.contracts.hold.Hold as hold
+use Rattle.connections.proofs.slot.slot_keeping.SlotKeeping.TheSendSync as keeping
+use Rattle.connections.specs.contracts.socket.arrival.Arrival as arrival
+use Rattle.connections.specs.contracts.socket.arrival.Arriving as arriving
+use Rattle.connections.specs.contracts.slot.hold.Hold as hold
 use Rattle.connections.specs.contracts.inbox.Inbox as inbox
-use Rattle.connections.specs.contracts.latch.Latch as latch
-use Rattle.connections.specs.contracts.slot_snapshot.SlotSnapshot as known
-use Rattle.connections.specs.contracts.slot_monitor.SlotMonitor as monitor
-use Rattle.connections.specs.contracts.sockets.ServedSocket as served
-use Rattle.connections.specs.contracts.sockets.Sockets as sockets
+use Rattle.connections.specs.contracts.slot.latch.Latch as latch
+use Rattle.connections.specs.contracts.slot.slot_snapshot.SlotSnapshot as known
+use Rattle.connections.specs.contracts.slot.slot_monitor.SlotMonitor as monitor
+use Rattle.connections.specs.contracts.socket.sockets.ServedSocket as served
+use Rattle.connections.specs.contracts.socket.sockets.Sockets as sockets
 
 -- ---- the parts that have no name in their types
 pub inbox_send : IsSend inbox.the_row

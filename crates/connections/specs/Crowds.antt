@@ -3,8 +3,8 @@ use Rattle.std.specs.Prelude.{ℕ, Option, Some, None, Result, Ok, Err}
 use Rattle.frames.specs.declared.startup.Startup.{Startup}
 use Rattle.frames.specs.declared.startup.Startup.TheVariants.{Session, Ssl, Gss, Cancel}
 use Rattle.frames.specs.declared.fault.FrameFault.{FrameFault}
-use Rattle.connections.specs.declared.crowd.Due.{Due}
-use Rattle.connections.specs.declared.crowd.Due.TheVariants as due
+use Rattle.connections.specs.declared.socket.crowd.Due.{Due}
+use Rattle.connections.specs.declared.socket.crowd.Due.TheVariants as due
 
 -- a request for encryption is denied, and after it its startup is awaited; a request to cancel gets nothing; all else is refused
 abbrev pub due_for : Startup → ℕ → Due

@@ -1,7 +1,7 @@
 -- How long a client takes to confirm what was sent to it, in microseconds: `flush_lag` of pg_stat_replication (PostgreSQL 15, 28.2.3),
 -- by one position at a time.
 use Rattle.std.specs.Prelude.{ℕ, nat_lt, ◌-◌, max, Option, Some, None, if◌then◌else◌}
-use Rattle.connections.specs.declared.flush_lag.Sent.{Sent}
+use Rattle.connections.specs.declared.slot.flush_lag.Sent.{Sent}
 
 -- what was read and sent beyond what is confirmed is due from now on
 abbrev pub due_anew : (read confirmed now : ℕ) → Option Sent

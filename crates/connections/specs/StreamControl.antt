@@ -1,8 +1,8 @@
 -- How the stream of a slot is steered, and what passes to a client whose connection is to be cut after so many bytes.
 use Rattle.std.specs.Prelude.{ℕ, Option, Some, None, min, true, false, ◌-◌}
-use Rattle.connections.specs.declared.stream_control.StreamControl.{StreamControl}
-use Rattle.connections.specs.declared.stream_control.StreamCommand.{StreamCommand}
-use Rattle.connections.specs.declared.stream_control.StreamCommand.TheVariants as control
+use Rattle.connections.specs.declared.slot.stream_control.StreamControl.{StreamControl}
+use Rattle.connections.specs.declared.slot.stream_control.StreamCommand.{StreamCommand}
+use Rattle.connections.specs.declared.slot.stream_control.StreamCommand.TheVariants as control
 
 -- each word changes what it names, and nothing else
 abbrev pub control_after : StreamControl → StreamCommand → StreamControl

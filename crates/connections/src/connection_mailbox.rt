@@ -2,7 +2,7 @@
 
 use crate::fault::ConnectionEnd;
 use crate::inbox::{Inbox, Work};
-use crate::reading::left_until;
+use crate::socket::reading::left_until;
 use bytes::BytesMut;
 use copyboth::clock_now;
 use server::Phase;

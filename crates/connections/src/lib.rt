@@ -7,52 +7,37 @@
 //! that a stream has claimed. A `Latch` wakes the stream's writing thread; what it writes goes through a `MeteredWriter`, past
 //! the `SlotMonitor` of its slot, where it is looked at and steered (`StreamControl`).
 //!
-//! Read `inbox.rt`, `connection_mailbox.rt`, `slot_monitor.rt`. Above, a few contracts are used: what a pool, an inbox or a
+//! Read `inbox.rt`, `connection_mailbox.rt`, `slot/slot_monitor.rt`. Above, a few contracts are used: what a pool, an inbox or a
 //! mailbox was given comes out, once; as many bytes as a write took came to the writer; a cut passes as many as it says.
 #![tactic(auto)]
 
-mod arrival;
-mod commit_counter;
 mod connection_mailbox;
-mod crowd;
 mod fault;
-mod flush_lag;
-mod free_place;
-mod hold;
 mod inbox;
-mod latch;
-mod listening;
-mod metered_writer;
-mod names;
-mod outlet;
-mod reading;
 mod refused_command;
 mod server_observer;
-mod slot_keeping;
-mod slot_monitor;
-mod slot_snapshot;
-mod sockets;
-mod stream_control;
+mod slot;
+mod socket;
 mod words;
 
-pub use arrival::Arrival;
 pub use connection_mailbox::ConnectionMailbox;
-pub use crowd::hear_in_crowd;
 pub use fault::{AcceptError, ConnectionEnd, Unserved};
-pub use flush_lag::{FlushLag, moment};
-pub use hold::Hold;
 pub use inbox::{Inbox, Work};
-pub use latch::Latch;
-pub use listening::{is_of_listener, next_socket, rest};
-pub use metered_writer::MeteredWriter;
-pub use names::Names;
-pub use outlet::Outlet;
-pub use reading::{Came, Patience, has_gone, read_more};
 pub use refused_command::RefusedCommand;
 pub use server_observer::{NoopObserver, ServerObserver};
-pub use slot_keeping::SlotKeeping;
-pub use slot_monitor::SlotMonitor;
-pub use slot_snapshot::SlotSnapshot;
-pub use sockets::Sockets;
-pub use stream_control::{StreamCommand, StreamControl};
+pub use slot::flush_lag::{FlushLag, moment};
+pub use slot::hold::Hold;
+pub use slot::latch::Latch;
+pub use slot::names::Names;
+pub use slot::slot_keeping::SlotKeeping;
+pub use slot::slot_monitor::SlotMonitor;
+pub use slot::slot_snapshot::SlotSnapshot;
+pub use slot::stream_control::{StreamCommand, StreamControl};
+pub use socket::arrival::Arrival;
+pub use socket::crowd::hear_in_crowd;
+pub use socket::listening::{is_of_listener, next_socket, rest};
+pub use socket::metered_writer::MeteredWriter;
+pub use socket::outlet::Outlet;
+pub use socket::reading::{Came, Patience, has_gone, read_more};
+pub use socket::sockets::Sockets;
 pub use words::{StreamError, say_stream_error, write_stream_error};

@@ -14,7 +14,7 @@ use Rattle.shared_log.specs.declared.name.LogName as log_name
 use Rattle.shared_log.proofs.reader.LogReader.TheSendSync as reader
 use Rattle.slots.specs.declared.rule.SlotName as slot_name
 use Rattle.reorder.proofs.reorder.Reorder.TheSendSync as reorder
-use Rattle.walsender.proofs.outgoing.Outgoing.TheSendSync as outgoing
+use Rattle.walsender.proofs.held.outgoing.Outgoing.TheSendSync as outgoing
 use Rattle.walsender.specs.contracts.sender.Sender as sender
 use Rattle.walsender.specs.contracts.sender.Sender.TheInside as inside
 use Rattle.walsender.specs.contracts.walsender.Walsender as walsender

@@ -14,8 +14,8 @@ use Rattle.txlog.specs.Publishing.{PublisherState, IsRefusalOrMemory, insert_ref
 use Rattle.schedule.specs.declared.event.Literal.{Literal}
 use Rattle.schedule.specs.declared.event.SessionStep.{SessionStep}
 use Rattle.schedule.specs.declared.event.SessionStep.TheVariants as steps
-use Rattle.schedule.specs.declared.answer.Answer.{Answer}
-use Rattle.schedule.specs.declared.answer.Answer.TheVariants as answers
+use Rattle.schedule.specs.declared.printed.answer.Answer.{Answer}
+use Rattle.schedule.specs.declared.printed.answer.Answer.TheVariants as answers
 use Rattle.schedule.specs.declared.session.Session.{Session}
 use Rattle.schedule.specs.Transactions.{NamedTx, xid_of, without_name}
 use Rattle.schedule.specs.SessionLines.{Ask, IsCalled, IsAnswered, after_step, if_known, if_new, insert_refused, update_refused, delete_refused, step_ask, step_refusal}

@@ -6,8 +6,8 @@ use Rattle.walsender.specs.declared.fault.SendFault.{SendFault}
 use Rattle.walsender.specs.declared.fault.SendFault.TheVariants as sends
 use Rattle.client.specs.declared.fault.ClientFault.{ClientFault}
 use Rattle.client.specs.declared.fault.ClientFault.TheVariants as clients
-use Rattle.schedule.specs.declared.answer.Answer.{Answer}
-use Rattle.schedule.specs.declared.answer.Answer.TheVariants as answers
+use Rattle.schedule.specs.declared.printed.answer.Answer.{Answer}
+use Rattle.schedule.specs.declared.printed.answer.Answer.TheVariants as answers
 use Rattle.slots.specs.Codes.{slot_code}
 
 abbrev pub sender_code : SendFault → List ℕ

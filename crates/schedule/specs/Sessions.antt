@@ -8,8 +8,8 @@ use Rattle.txlog.specs.declared.fault.SessionFault.{SessionFault}
 use Rattle.txlog.specs.Publishing.{PublisherState, IsRefusalOrMemory}
 use Rattle.schedule.specs.declared.event.SessionStep.{SessionStep}
 use Rattle.schedule.specs.declared.event.SessionStep.TheVariants as steps
-use Rattle.schedule.specs.declared.answer.Answer.{Answer}
-use Rattle.schedule.specs.declared.answer.Answer.TheVariants as answers
+use Rattle.schedule.specs.declared.printed.answer.Answer.{Answer}
+use Rattle.schedule.specs.declared.printed.answer.Answer.TheVariants as answers
 use Rattle.schedule.specs.declared.session.Session.{Session}
 use Rattle.schedule.specs.Transactions.{NamedTx, xid_of, without_name}
 use Rattle.schedule.specs.SessionLines.{SessionState, IsCalled, step_ask}

@@ -7,8 +7,8 @@ ghost use Rattle.schedule.specs.SessionLines.{receipt_due, step_ask, takes_memor
 ghost use Rattle.txlog.specs.Publishing.{after_note, note_refusal};
 ghost use Rattle.schedule.specs.Sessions.{Called, Grows, IsNamedAt, IsStepOf, is_within, named_tx, sessions_state};
 
-use crate::answer::Answer;
 use crate::event::SessionStep;
+use crate::printed::answer::Answer;
 use crate::session::{Session, place_of};
 use pqformat::Text;
 use shared_log::LogName;

@@ -1,6 +1,6 @@
 //! The events of a schedule, one a line.
 
-use crate::start_options::StartOptions;
+use crate::lines::start_options::StartOptions;
 use pqformat::{Items, Text};
 
 /// One line of a schedule.

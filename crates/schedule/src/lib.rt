@@ -5,32 +5,24 @@
 //! `write_subscriber` print. `Sessions::line` does the line of a session: it begins, changes or ends a transaction, or sets and leaves
 //! its savepoints, by one call of the publisher. Crate `world` runs the other events.
 //!
-//! Read `event.rt`, `parse.rt`, `sessions.rt`, `answer.rt`. Above, `world` and `pubd` use one contract: a session's line makes
-//! its one call of the publisher, or is refused as a bad line exactly where a rule says (`Sessions::line`: `done`, `bad`).
+//! Read `event.rt`, `lines/parse.rt`, `sessions.rt`, `printed/answer.rt`. Above, `world` and `pubd` use one contract: a session's
+//! line makes its one call of the publisher, or is refused as a bad line exactly where a rule says (`Sessions::line`: `done`, `bad`).
 #![tactic(auto)]
 
-mod answer;
-mod bad_line;
 mod calls;
-mod codes;
-mod escapes;
 mod event;
 mod fault;
-mod fields;
-mod literals;
-mod parse;
-mod report;
-mod rows;
+mod lines;
+mod printed;
 mod schedule;
 mod session;
 mod sessions;
-mod start_options;
 
-pub use answer::Answer;
-pub use bad_line::{BadLine, Dialect, LineRefusal};
 pub use event::{ConnectionStep, Event, Literal, SessionStep};
 pub use fault::{BadEvent, WorldFault};
-pub use report::{write_answers, write_slot, write_stream, write_subscriber};
+pub use lines::bad_line::{BadLine, Dialect, LineRefusal};
+pub use lines::start_options::StartOptions;
+pub use printed::answer::Answer;
+pub use printed::report::{write_answers, write_slot, write_stream, write_subscriber};
 pub use schedule::{LineFault, Schedule};
 pub use sessions::Sessions;
-pub use start_options::StartOptions;

@@ -6,9 +6,9 @@ ghost use Rattle.txlog.specs.Publishing.{IsRefusalOrMemory, after_change, messag
 ghost use Rattle.schedule.specs.SessionLines.{after_step, delete_refused, deleted_in, insert_refused, inserted_in, oids_named, step_refusal, takes_memory, truncate_refused, truncated_in, update_refused, updated_in};
 ghost use Rattle.schedule.specs.Sessions.{Called, Grows, is_within, named_tx, place_from};
 
-use crate::answer::Answer;
 use crate::event::{Literal, SessionStep};
-use crate::rows::{key_of, row_of};
+use crate::lines::rows::{key_of, row_of};
+use crate::printed::answer::Answer;
 use catalog::Catalog;
 use pqformat::{Items, Text};
 use shared_log::LogName;

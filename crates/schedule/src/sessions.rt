@@ -6,10 +6,10 @@ ghost use Rattle.schedule.specs.Transactions.{xid_of};
 ghost use Rattle.schedule.specs.SessionLines.{IsCalled, IsLine, ask_of, line_takes_memory, receipt_due, state_of, step_ask, takes_memory};
 ghost use Rattle.schedule.specs.Sessions.{Grows};
 
-use crate::answer::Answer;
 use crate::calls::{call, is_known, note};
 use crate::event::{Event, SessionStep};
 use crate::fault::WorldFault;
+use crate::printed::answer::Answer;
 use crate::session::{Session, leave_all};
 use pqformat::Text;
 use shared_log::LogName;

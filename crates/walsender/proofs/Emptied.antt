@@ -4,7 +4,7 @@ use Rattle.publication.specs.Publications.{PublicationSet}
 use Rattle.reorder.specs.Taking.{ReorderState}
 use Rattle.walsender.specs.Outgoing.{IsOutgoing, frames_left, held_behind, held_of}
 use Rattle.walsender.specs.Waiting.{bytes_behind}
-use Rattle.walsender.specs.declared.outgoing.Outgoing.{Outgoing}
+use Rattle.walsender.specs.declared.held.outgoing.Outgoing.{Outgoing}
 
 pub empty_is : {A : Type 0} (xs : List A) → length xs ≡ 0 → xs ≡ []
 empty_is [] none = refl

@@ -20,9 +20,9 @@ use Rattle.walsender.specs.Published.{published_changes}
 use Rattle.walsender.specs.Waiting.{AreSelected, AreWithin, Makes, bytes_behind, bytes_left, changes_bytes, commit_bytes, left_of, places, ready_states, sent_behind}
 use Rattle.walsender.specs.Lent.{LentTransaction}
 use Rattle.walsender.specs.Outgoing.{HoldsSame, IsFilled, IsOutgoing, IsSameQueue, frames_left, held_behind, held_of, lent_in, lent_of, sent_of}
-use Rattle.walsender.specs.declared.outgoing.Outgoing.{Outgoing}
-use Rattle.walsender.specs.declared.outgoing.TheConstants.{FRAMES_LENGTH}
-use Rattle.walsender.specs.declared.committed_transaction.CommittedTransaction.{CommittedTransaction}
+use Rattle.walsender.specs.declared.held.outgoing.Outgoing.{Outgoing}
+use Rattle.walsender.specs.declared.held.outgoing.TheConstants.{FRAMES_LENGTH}
+use Rattle.walsender.specs.declared.held.committed_transaction.CommittedTransaction.{CommittedTransaction}
 use Rattle.walsender.proofs.Lasting.{last_same, last_then, lents_same}
 use Rattle.walsender.proofs.Queueing.{bytes_same, sent_same}
 

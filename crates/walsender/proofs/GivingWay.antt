@@ -11,7 +11,7 @@ use Rattle.reorder.proofs.Settling.{settled_taken}
 use Rattle.walsender.specs.Outgoing.{HasFreeChunk, HoldsSame, held_of, lent_of, sent_of, settled_of}
 use Rattle.walsender.specs.Sending.{ReadOne, SenderState, sent_by_record}
 use Rattle.walsender.specs.Waiting.{ready_states}
-use Rattle.walsender.specs.declared.outgoing.Outgoing.{Outgoing}
+use Rattle.walsender.specs.declared.held.outgoing.Outgoing.{Outgoing}
 use Rattle.walsender.proofs.Lasting.{last_more, last_then}
 use Rattle.walsender.proofs.States.{state}
 

@@ -9,9 +9,9 @@ use Rattle.reorder.specs.Settled.{AreLentIn, after_giving_all_back}
 use Rattle.reorder.specs.Taking.{ReorderState}
 use Rattle.walsender.specs.Waiting.{AreSelected, AreWithin, bytes_behind, places, ready_states, sent_behind}
 use Rattle.walsender.specs.Outgoing.{AddsBytes, HasRoom, IsOutgoing, IsSameQueue, IsSized, frames_left, held_behind, held_of, lent_in, lent_of, sent_of, settled_of}
-use Rattle.walsender.specs.declared.outgoing.Outgoing.{Outgoing}
-use Rattle.walsender.specs.declared.outgoing.TheConstants.{FRAMES_LENGTH}
-use Rattle.walsender.specs.declared.committed_transaction.CommittedTransaction.{CommittedTransaction}
+use Rattle.walsender.specs.declared.held.outgoing.Outgoing.{Outgoing}
+use Rattle.walsender.specs.declared.held.outgoing.TheConstants.{FRAMES_LENGTH}
+use Rattle.walsender.specs.declared.held.committed_transaction.CommittedTransaction.{CommittedTransaction}
 use Rattle.walsender.proofs.Queueing.{bytes_more, within_more}
 
 -- ---- frames that there was no room for

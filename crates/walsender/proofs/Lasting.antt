@@ -25,8 +25,8 @@ use Rattle.walsender.specs.Outgoing.{frames_left, held_of, lent_by_step, lent_in
 use Rattle.walsender.specs.Published.{has_message, published_as}
 use Rattle.walsender.specs.Sending.{published_by_record, sent_by_record}
 use Rattle.walsender.specs.Waiting.{bytes_behind, changes_bytes, commit_bytes, left_of, ready_states}
-use Rattle.walsender.specs.declared.outgoing.Outgoing.{Outgoing}
-use Rattle.walsender.specs.declared.committed_transaction.CommittedTransaction.{CommittedTransaction}
+use Rattle.walsender.specs.declared.held.outgoing.Outgoing.{Outgoing}
+use Rattle.walsender.specs.declared.held.committed_transaction.CommittedTransaction.{CommittedTransaction}
 
 -- ---- the last ones
 

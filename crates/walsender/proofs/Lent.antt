@@ -14,8 +14,8 @@ use Rattle.reorder.proofs.Settling.{entries_given_back, entries_lent, taken_sett
 use Rattle.reorder.proofs.Filling.{chunks_each_given_back, chunks_each_lent, settled_tidy, tidy_settled}
 use Rattle.walsender.specs.Waiting.{bytes_behind, ready_states}
 use Rattle.walsender.specs.Outgoing.{IsOutgoing, frames_left, held_behind, held_of, lent_of, sent_of}
-use Rattle.walsender.specs.declared.outgoing.Outgoing.{Outgoing}
-use Rattle.walsender.specs.declared.committed_transaction.CommittedTransaction.{CommittedTransaction}
+use Rattle.walsender.specs.declared.held.outgoing.Outgoing.{Outgoing}
+use Rattle.walsender.specs.declared.held.committed_transaction.CommittedTransaction.{CommittedTransaction}
 use Rattle.walsender.proofs.Emptied.{none_held}
 use Rattle.walsender.proofs.Lasting.{lents_same}
 use Rattle.walsender.proofs.Queueing.{bytes_low, bytes_same, sent_same, waits_some}

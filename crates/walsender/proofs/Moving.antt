@@ -11,8 +11,8 @@ use Rattle.reorder.specs.Taking.{ReorderState}
 use Rattle.walsender.proofs.Emptied.{empty_is}
 use Rattle.walsender.specs.Waiting.{bytes_behind}
 use Rattle.walsender.specs.Outgoing.{HoldsSame, IsOutgoing, MovesOut, frames_left, held_behind, held_of, lent_of}
-use Rattle.walsender.specs.declared.outgoing.Outgoing.{Outgoing}
-use Rattle.walsender.specs.declared.committed_transaction.CommittedTransaction.{CommittedTransaction}
+use Rattle.walsender.specs.declared.held.outgoing.Outgoing.{Outgoing}
+use Rattle.walsender.specs.declared.held.committed_transaction.CommittedTransaction.{CommittedTransaction}
 use Rattle.walsender.proofs.Lasting.{last_then}
 use Rattle.walsender.proofs.Queueing.{waits_some}
 

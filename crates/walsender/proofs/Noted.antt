@@ -15,7 +15,7 @@ use Rattle.reorder.specs.Taking.{ReorderState}
 use Rattle.pgoutput.specs.Items.{Block, bytes_of_items, relations_sent_through, xlogdata_word}
 use Rattle.walsender.specs.Published.{published_note}
 use Rattle.walsender.specs.Outgoing.{AddsBytes, Grows, IsOutgoing, held_of, sent_of}
-use Rattle.walsender.specs.declared.outgoing.Outgoing.{Outgoing}
+use Rattle.walsender.specs.declared.held.outgoing.Outgoing.{Outgoing}
 use Rattle.walsender.proofs.Framing.{frames_one}
 use Rattle.walsender.proofs.Growing.{bytes_added, sent_kept}
 use Rattle.walsender.proofs.Noting.{by_message, told}

@@ -8,9 +8,9 @@ use Rattle.publication.specs.Publications.{PublicationSet}
 use Rattle.reorder.specs.Taking.{ReorderState}
 use Rattle.walsender.specs.Outgoing.{HoldsSame, IsFilled, IsOutgoing}
 use Rattle.walsender.specs.Waiting.{AreSelected, Makes, left_of}
-use Rattle.walsender.specs.declared.outgoing.Outgoing.{Outgoing}
-use Rattle.walsender.specs.declared.outgoing.TheConstants.{FRAMES_LENGTH}
-use Rattle.walsender.specs.declared.committed_transaction.CommittedTransaction.{CommittedTransaction}
+use Rattle.walsender.specs.declared.held.outgoing.Outgoing.{Outgoing}
+use Rattle.walsender.specs.declared.held.outgoing.TheConstants.{FRAMES_LENGTH}
+use Rattle.walsender.specs.declared.held.committed_transaction.CommittedTransaction.{CommittedTransaction}
 use Rattle.walsender.proofs.Frames.{ComesToFrames, frame_made, mid_length, mid_taken, moved_to}
 
 -- what of the fields is as it was, and what came to them

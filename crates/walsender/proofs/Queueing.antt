@@ -8,7 +8,7 @@ use Rattle.pgoutput.specs.declared.published.PublishedChange.{PublishedChange}
 use Rattle.pgoutput.specs.Items.{relations_sent_by_all}
 use Rattle.walsender.specs.Published.{published_changes}
 use Rattle.walsender.specs.Waiting.{AreWithin, bytes_behind, bytes_left, changes_bytes, commit_bytes, left_of, places, ready_states, sent_behind}
-use Rattle.walsender.specs.declared.committed_transaction.CommittedTransaction.{CommittedTransaction}
+use Rattle.walsender.specs.declared.held.committed_transaction.CommittedTransaction.{CommittedTransaction}
 
 -- ---- lists
 

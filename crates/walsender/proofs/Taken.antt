@@ -19,7 +19,7 @@ use Rattle.walsender.specs.Waiting.{ready_states, ready_states_with}
 use Rattle.walsender.specs.Lent.{LentTransaction}
 use Rattle.walsender.specs.Outgoing.{Grows, held_of, lent_by_step, lent_of, sent_of, settled_of}
 use Rattle.walsender.specs.Sending.{ReadOne, blocks, published_by_record, sent_by_record}
-use Rattle.walsender.specs.declared.outgoing.Outgoing.{Outgoing}
+use Rattle.walsender.specs.declared.held.outgoing.Outgoing.{Outgoing}
 use Rattle.walsender.proofs.Lasting.{last_same, step_fills}
 use Rattle.walsender.proofs.Lent.{Keeps}
 use Rattle.walsender.proofs.States.{state}

@@ -6,7 +6,7 @@ use Rattle.publication.specs.Selection.{relation, selected_oids}
 use Rattle.pgoutput.specs.declared.published.Published.{Published}
 use Rattle.pgoutput.specs.Items.{Block, bytes_of_items, relations_sent_through}
 use Rattle.reorder.specs.Ready.{ReadyState}
-use Rattle.walsender.specs.declared.header.Header.{Header}
+use Rattle.walsender.specs.declared.framing.header.Header.{Header}
 use Rattle.reorder.specs.Chunks.{IsTidy, live_chunks}
 use Rattle.reorder.specs.Settled.{AreLentIn, after_giving_all_back, lent_chunks, ready_chunks}
 use Rattle.reorder.specs.declared.ready.Step.{Step}
@@ -16,9 +16,9 @@ use Rattle.reorder.specs.Taking.{HasTaken, ReorderState}
 use Rattle.wal.specs.declared.record.Record.{Record}
 use Rattle.walsender.specs.Waiting.{AreSelected, AreWithin, begin_bytes, bytes_behind, places, ready_states, sent_behind}
 use Rattle.walsender.specs.Lent.{AreLastOf, LentTransaction, lent_with}
-use Rattle.walsender.specs.declared.outgoing.Outgoing.{Outgoing}
-use Rattle.walsender.specs.declared.committed_transaction.CommittedTransaction.{CommittedTransaction}
-use Rattle.walsender.specs.declared.outgoing.TheConstants.{FRAMES_LENGTH}
+use Rattle.walsender.specs.declared.held.outgoing.Outgoing.{Outgoing}
+use Rattle.walsender.specs.declared.held.committed_transaction.CommittedTransaction.{CommittedTransaction}
+use Rattle.walsender.specs.declared.held.outgoing.TheConstants.{FRAMES_LENGTH}
 
 -- the frames that are made and not yet taken
 abbrev pub frames_left : Outgoing → List ℕ

@@ -16,8 +16,8 @@ use Rattle.reorder.specs.declared.ready.Step.{Step}
 use Rattle.reorder.specs.declared.ready.Step.TheVariants as steps
 use Rattle.walsender.specs.Published.{published_changes}
 use Rattle.walsender.specs.Spelled.{begin_with, commit_with}
-use Rattle.walsender.specs.declared.header.Header.{Header}
-use Rattle.walsender.specs.declared.committed_transaction.CommittedTransaction.{CommittedTransaction}
+use Rattle.walsender.specs.declared.framing.header.Header.{Header}
+use Rattle.walsender.specs.declared.held.committed_transaction.CommittedTransaction.{CommittedTransaction}
 
 -- a transaction's changes from the next one on, as they are published
 abbrev pub left_of : PublicationSet → PoolState → CommittedTransaction → List PublishedChange

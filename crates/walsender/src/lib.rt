@@ -5,37 +5,27 @@
 //! number of times: `read` or `turn` reads the log on, `keepalive` adds a keepalive, `turn`, `write_held` and `drain_into` give bytes
 //! away. `end` gives the reader back. `Sender` is its core, which is fed records.
 //!
-//! Read `walsender.rt`, `sender.rt`, `publishing.rt`, `making.rt`. Above, one contract is used: what was given away since the
-//! start and what is held are a stream encoding of exactly what the records that were read publish (`serves`).
+//! Read `walsender.rt`, `sender.rt`, `framing/publishing.rt`, `framing/making.rt`. Above, one contract is used: what was given away
+//! since the start and what is held are a stream encoding of exactly what the records that were read publish (`serves`).
 #![tactic(auto)]
 
 mod beginning;
-mod bounds;
-mod committed_transaction;
-mod draining;
 mod ended;
 mod fault;
 mod feeding;
-mod filling;
-mod header;
-mod limits;
-mod making;
-mod named;
-mod outgoing;
-mod publishing;
+mod framing;
+mod held;
 mod section;
 mod sender;
-mod turn_fault;
-mod turning;
+mod turn;
 mod walsender;
-mod word;
 
 pub use beginning::{ClaimFault, StartBackend, StartFault, begin};
 pub use ended::Ended;
 pub use fault::SendFault;
-pub use limits::TURN_RECORDS;
 pub use section::a_section_may_be_fed;
 pub use sender::Sender;
-pub use turn_fault::TurnFault;
-pub use turning::turn;
+pub use turn::limits::TURN_RECORDS;
+pub use turn::turn_fault::TurnFault;
+pub use turn::turning::turn;
 pub use walsender::Walsender;

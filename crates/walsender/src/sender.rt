@@ -11,7 +11,7 @@ ghost use Rattle.wal.specs.declared.record.Record.{Record as Logged};
 
 use crate::ended::Ended;
 use crate::fault::SendFault;
-use crate::outgoing::Outgoing;
+use crate::held::outgoing::Outgoing;
 use bytes::BytesMut;
 use chgarena::Arena;
 use publication::Selection;

@@ -8,13 +8,13 @@ use Rattle.slots.specs.declared.fault.SlotFault.TheVariants as slot_faults
 use Rattle.slots.specs.State.{NamedSlot, SlotsState, create_refusal, if_named, slot_of, slot_with_confirmed, slot_with_hold, slots_after_create, slots_after_refusal}
 use Rattle.txlog.specs.Publishing.{log_end}
 use Rattle.publication_config.specs.declared.fault.PubFault.TheVariants as pubs
-use Rattle.schedule.specs.declared.start_options.StartOptions.{StartOptions}
+use Rattle.schedule.specs.declared.lines.start_options.StartOptions.{StartOptions}
 use Rattle.schedule.specs.declared.event.Event.{Event}
 use Rattle.schedule.specs.declared.event.Event.TheVariants as events
 use Rattle.schedule.specs.declared.event.ConnectionStep.{ConnectionStep}
 use Rattle.schedule.specs.declared.event.ConnectionStep.TheVariants as steps
-use Rattle.schedule.specs.declared.answer.Answer.{Answer}
-use Rattle.schedule.specs.declared.answer.Answer.TheVariants as answers
+use Rattle.schedule.specs.declared.printed.answer.Answer.{Answer}
+use Rattle.schedule.specs.declared.printed.answer.Answer.TheVariants as answers
 use Rattle.world.specs.Start.{StartState}
 use Rattle.world.specs.State.{SubscriberState, WorldState, slot_of_connection, subscriber_of}
 use Rattle.world.specs.ConnectionLines.{IsStart}

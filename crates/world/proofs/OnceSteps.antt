@@ -10,9 +10,9 @@ use Rattle.publication_config.specs.declared.fault.PubFault.TheVariants as pubs
 use Rattle.pgoutput.specs.declared.published.Published.{Published}
 use Rattle.pgoutput.proofs.Lists.{all_of_both}
 use Rattle.walsender.specs.declared.fault.SendFault.TheVariants as sends
-use Rattle.schedule.specs.declared.start_options.StartOptions.{StartOptions}
-use Rattle.schedule.specs.declared.answer.Answer.{Answer}
-use Rattle.schedule.specs.declared.answer.Answer.TheVariants as answers
+use Rattle.schedule.specs.declared.lines.start_options.StartOptions.{StartOptions}
+use Rattle.schedule.specs.declared.printed.answer.Answer.{Answer}
+use Rattle.schedule.specs.declared.printed.answer.Answer.TheVariants as answers
 use Rattle.schedule.specs.declared.event.ConnectionStep.{ConnectionStep}
 use Rattle.schedule.specs.declared.event.ConnectionStep.TheVariants as steps
 use Rattle.slots.specs.State.{SlotsState}

@@ -9,8 +9,8 @@ use Rattle.publication.specs.Publications.{PublicationSet}
 use Rattle.copyboth.specs.declared.status.Status.{Status}
 use Rattle.pgoutput.specs.declared.published.Published.{Published}
 use Rattle.pgoutput.proofs.Lists.{all_of_both}
-use Rattle.schedule.specs.declared.start_options.StartOptions.{StartOptions}
-use Rattle.schedule.specs.declared.answer.Answer.{Answer}
+use Rattle.schedule.specs.declared.lines.start_options.StartOptions.{StartOptions}
+use Rattle.schedule.specs.declared.printed.answer.Answer.{Answer}
 use Rattle.schedule.specs.declared.event.ConnectionStep.{ConnectionStep}
 use Rattle.schedule.specs.declared.event.ConnectionStep.TheVariants as steps
 use Rattle.slots.specs.State.{NamedSlot, SlotsState, confirmed_of, slot_of}

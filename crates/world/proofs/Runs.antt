@@ -12,7 +12,7 @@ use Rattle.publication.specs.Selection.{relation}
 use Rattle.pgoutput.specs.Stream.{IsStream}
 use Rattle.walsender.specs.Published.{published_transactions}
 use Rattle.walsender.specs.Sending.{SenderState}
-use Rattle.schedule.specs.declared.answer.Answer.{Answer}
+use Rattle.schedule.specs.declared.printed.answer.Answer.{Answer}
 use Rattle.schedule.specs.declared.event.Event.{Event}
 use Rattle.schedule.specs.declared.fault.WorldFault.{WorldFault}
 use Rattle.schedule.specs.declared.fault.WorldFault.TheVariants as worlds

@@ -11,8 +11,8 @@ use Rattle.walsender.specs.declared.fault.SendFault.{SendFault}
 use Rattle.walsender.specs.declared.fault.SendFault.TheVariants as sends
 use Rattle.walsender.specs.Published.{published_from, published_transactions}
 use Rattle.walsender.specs.Sending.{SenderState, published_bytes, ReadAll, RanOut}
-use Rattle.schedule.specs.declared.answer.Answer.{Answer}
-use Rattle.schedule.specs.declared.answer.Answer.TheVariants as answers
+use Rattle.schedule.specs.declared.printed.answer.Answer.{Answer}
+use Rattle.schedule.specs.declared.printed.answer.Answer.TheVariants as answers
 use Rattle.walsender.specs.Serving.{IsServing, Reads, next_records}
 use Rattle.walsender.proofs.ServedSections.{section_front, section_of}
 use Rattle.walsender.proofs.Skipping.{adds_whole, reads_behind}

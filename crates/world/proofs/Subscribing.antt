@@ -5,7 +5,7 @@ use Rattle.std.specs.List.{AllByRecursion}
 use Rattle.std.specs.Str.{bytes_eq}
 use Rattle.std.proofs.lemmas.List.{map-set}
 use Rattle.std.proofs.lemmas.Option.{slice_get_read, slice_get_within}
-use Rattle.schedule.specs.declared.answer.Answer.{Answer}
+use Rattle.schedule.specs.declared.printed.answer.Answer.{Answer}
 use Rattle.world.specs.declared.machine.Machine.{Machine}
 use Rattle.world.specs.declared.start.Start.{Start}
 use Rattle.world.specs.declared.subscriber.Subscriber.{Subscriber}

@@ -6,7 +6,7 @@ use Rattle.indexmap.specs.IndexSet.{IndexSet, spare}
 use Rattle.std.specs.List.{AllByRecursion}
 use Rattle.wal.specs.declared.record.Record.{Record}
 use Rattle.wal.specs.Log.{IsWellFormedLog}
-use Rattle.schedule.specs.declared.answer.Answer.{Answer}
+use Rattle.schedule.specs.declared.printed.answer.Answer.{Answer}
 use Rattle.world.specs.declared.action.Action.{Action}
 use Rattle.world.specs.declared.start.Start.{Start}
 use Rattle.world.specs.declared.subscriber.Subscriber.{Subscriber}

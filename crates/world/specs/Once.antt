@@ -11,13 +11,13 @@ use Rattle.walsender.specs.Published.{published_transactions}
 use Rattle.client.specs.Subscriber.{subscriber_at_rest}
 use Rattle.client.specs.Law.{GainedAll}
 use Rattle.txlog.specs.Publishing.{log_end}
-use Rattle.schedule.specs.declared.start_options.StartOptions.{StartOptions}
+use Rattle.schedule.specs.declared.lines.start_options.StartOptions.{StartOptions}
 use Rattle.schedule.specs.declared.event.Event.{Event}
 use Rattle.schedule.specs.declared.event.Event.TheVariants as events
 use Rattle.schedule.specs.declared.event.ConnectionStep.{ConnectionStep}
 use Rattle.schedule.specs.declared.event.ConnectionStep.TheVariants as steps
-use Rattle.schedule.specs.declared.answer.Answer.{Answer}
-use Rattle.schedule.specs.declared.answer.Answer.TheVariants as answers
+use Rattle.schedule.specs.declared.printed.answer.Answer.{Answer}
+use Rattle.schedule.specs.declared.printed.answer.Answer.TheVariants as answers
 use Rattle.slots.specs.Words.{slot_named}
 use Rattle.world.specs.Start.{StartState}
 use Rattle.world.specs.State.{SubscriberState, WorldState, open_start, subscriber_of}

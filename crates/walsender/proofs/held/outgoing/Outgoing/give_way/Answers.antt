@@ -1,0 +1,17 @@
+use Rattle.std.proofs.Common.{◌<◌, length, arith}
+use Rattle.walsender.proofs.Frames.{same_then}
+use Rattle.walsender.proofs.Moving.{falls}
+use Rattle.walsender.proofs.held.outgoing.Outgoing.give_way.Goals as goal
+
+pub loop-reorder-smaller : goal.loop-reorder-smaller
+loop-reorder-smaller c =
+    let some : 0 < length c.loop-reorder.self.waiting.items = grind (arith, c.is_empty.ensures, c.loop-reorder-test.true) in
+    falls c.args.selection.now c.loop-reorder.reorder c.gather_frames.new.reorder c.loop-reorder.self c.gather_frames.new.self c.in_ok-gather_frames.field-0 c.loop-reorder.invariant.good c.gather_frames.ensures.same some c.in_ok-gather_frames.ensures.more
+
+pub loop-reorder-preserved : goal.loop-reorder-preserved
+loop-reorder-preserved c =
+    same_then c.args.selection.now c.args.reorder.now c.loop-reorder.reorder c.gather_frames.new.reorder c.args.self.now c.loop-reorder.self c.gather_frames.new.self c.loop-reorder.invariant c.gather_frames.ensures.same
+
+pub returns-in_err-gather_frames-clause-same : goal.returns-in_err-gather_frames-clause-same
+returns-in_err-gather_frames-clause-same c =
+    same_then c.args.selection.now c.args.reorder.now c.loop-reorder.reorder c.gather_frames.new.reorder c.args.self.now c.loop-reorder.self c.gather_frames.new.self c.loop-reorder.invariant c.gather_frames.ensures.same
