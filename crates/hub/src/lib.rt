@@ -29,7 +29,8 @@ pub use server::Refusal;
 pub use server_host::ServerHost;
 pub use server_state::{
     ChangeFault, ConfigurationFault, EndFault, HubBuilder, HubFault, HubSettings, HubStatus, Left,
-    Savepoint, ServeFault, SlotStatus, SteerFault, Transaction, Writing,
+    NewMember, NewPublication, NewTable, Savepoint, ServeFault, SlotStatus, SteerFault,
+    Transaction, Writing,
 };
 pub use service::{HubName, Service};
 pub use service_hub::{WithHubFault, with_hub};

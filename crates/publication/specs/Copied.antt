@@ -1,6 +1,6 @@
 -- What an initial copy of a table hands over (PostgreSQL 15, 31.7): its rows that the filter of one of the publications passes, with the
 -- columns that are asked for. Which operations a publication publishes has no say in it.
-use Rattle.std.specs.Prelude.{ℕ, Bool, false, List, [], ◌∷◌, map, Option, Some, None}
+use Rattle.std.specs.Prelude.{ℕ, ◌==◌, Bool, false, List, [], ◌∷◌, length, map, if◌then◌else◌, Option, Some, None}
 use Rattle.publication_config.specs.declared.operations.Operations.{Operations}
 use Rattle.publication_config.specs.declared.publication.Publication.{Publication}
 use Rattle.publication_config.specs.declared.published_table.PublishedTable.{PublishedTable}
@@ -21,8 +21,7 @@ copied_whole oid listed = record { name = []; operations = all_operations; table
 
 -- by the publications of these names, or, with no name, all rows
 abbrev pub copied_publications : ℕ → List Bool → List (List ℕ) → List Publication → List Publication
-copied_publications oid listed [] publications = copied_whole oid listed ∷ []
-copied_publications oid listed names publications = map (copied_publication oid listed) (publications_named names publications)
+copied_publications oid listed names publications = if length names == 0 then copied_whole oid listed ∷ [] else map (copied_publication oid listed) (publications_named names publications)
 
 -- what the copy is of: a row is handed over where its insert would be a message, and as the tuple of that
 abbrev pub copied_by : PublicationSet → ℕ → List Bool → List (List ℕ) → PublicationSet

@@ -1,6 +1,6 @@
 //! What an initial copy of a table hands over.
 
-ghost use Rattle.std.specs.Prelude.{◌≡◌, IfOk};
+ghost use Rattle.std.specs.Prelude.{◌≡◌, IfOk, map};
 ghost use Rattle.std.specs.List.{AllByRecursion};
 ghost use Rattle.std.specs.Option.{option_copied};
 ghost use Rattle.row_messages.specs.Relations.{FitsTable};
@@ -57,12 +57,25 @@ fn copied_publications(
     ensures { IfOk result
         (λ ps. ps ≡ copied_publications oid listed.now names.now publications.now) }
 {
-    let mut copied = Vec::new(alloc);
     if names.is_empty() {
-        copied.push(copied_whole(alloc, oid, listed)?)?;
-        return Ok(Items::new(copied));
+        let mut whole = Vec::new(alloc);
+        whole.push(copied_whole(alloc, oid, listed)?)?;
+        return Ok(Items::new(whole));
     }
-    for publication in named(alloc, publications, names)?.as_slice() {
+    let named = named(alloc, publications, names)?;
+    each_copied(alloc, named.as_slice(), oid, listed)
+}
+
+fn each_copied(
+    alloc: Global,
+    publications: &[Publication],
+    oid: u32,
+    listed: &[bool],
+) -> Result<Items<Publication>, AllocError>
+    ensures { IfOk result (λ ps. ps ≡ map (copied_publication oid listed.now) publications.now) }
+{
+    let mut copied = Vec::new(alloc);
+    for publication in publications {
         copied.push(copied_publication(alloc, publication, oid, listed)?)?;
     }
     Ok(Items::new(copied))
@@ -106,7 +119,7 @@ fn with_list(
     oid: u32,
     listed: &[bool],
 ) -> Result<Vec<PublishedTable>, AllocError>
-    ensures { IfOk result (λ ts. ts.items ≡ with_list oid listed.now (option_copied table)) }
+    ensures { IfOk result (λ ts. ts.items ≡ with_list oid listed.now (option_copied table.entry)) }
 {
     let mut tables = Vec::new(alloc);
     if let Some(table) = table {

@@ -21,6 +21,8 @@ pub use fault::{EndFault, HubFault, ServeFault, SteerFault};
 pub use kept::pool::ReaderSeat;
 pub use opening::configured::ConfigurationFault;
 pub use opening::hub_builder::HubBuilder;
+pub use opening::new_publication::{NewMember, NewPublication};
+pub use opening::new_table::NewTable;
 pub use opening::settings::HubSettings;
 pub use opening::system::SystemName;
 pub use publications::published::{known_names, tables_of};
