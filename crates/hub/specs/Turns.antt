@@ -16,8 +16,8 @@ use Rattle.walsender.specs.Sending.{SenderState}
 use Rattle.walsender.specs.Serving.{ReadsAndWrites, Serves, WritesFirst}
 use Rattle.walsender.specs.Turning.{fetched_from}
 use Rattle.walsender.specs.declared.fault.SendFault.TheVariants.{ArenaFull}
-use Rattle.walsender.specs.declared.turn.turn_fault.TurnFault.{TurnFault}
-use Rattle.walsender.specs.declared.turn.turn_fault.TurnFault.TheVariants as turns
+use Rattle.walsender.specs.declared.stream_turn.turn_fault.TurnFault.{TurnFault}
+use Rattle.walsender.specs.declared.stream_turn.turn_fault.TurnFault.TheVariants as turns
 use Rattle.connections.specs.declared.fault.ConnectionEnd.{ConnectionEnd}
 use Rattle.connections.specs.declared.fault.ConnectionEnd.TheVariants as ends
 use Rattle.connections.specs.declared.words.StreamError.{StreamError}

@@ -18,7 +18,7 @@ use Rattle.walsender.specs.Published.{published_with}
 use Rattle.walsender.specs.Waiting.{AreSelected, AreWithin, begin_bytes, bytes_behind, changes_bytes, commit_bytes, places, ready_states, sent_behind}
 use Rattle.walsender.specs.Outgoing.{Grows, IsOutgoing, Queues, StaysQueued, frames_left, held_behind, held_of, lent_in, lent_of, sent_of, settled_of}
 use Rattle.walsender.specs.Lent.{lent_with}
-use Rattle.walsender.specs.declared.framing.header.Header.{Header}
+use Rattle.walsender.specs.declared.commit_frames.header.Header.{Header}
 use Rattle.walsender.specs.declared.held.outgoing.Outgoing.{Outgoing}
 use Rattle.walsender.specs.declared.held.committed_transaction.CommittedTransaction.{CommittedTransaction}
 use Rattle.walsender.proofs.Framing.{block_is}

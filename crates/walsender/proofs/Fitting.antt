@@ -9,7 +9,7 @@ use Rattle.pgoutput.specs.declared.published.Published.{Published}
 use Rattle.pgoutput.specs.declared.published.PublishedChange.{PublishedChange}
 use Rattle.pgoutput.specs.Items.{FitsChange, FitsPublished}
 use Rattle.wal.specs.Log.{Entry}
-use Rattle.walsender.specs.declared.framing.header.Header.{Header}
+use Rattle.walsender.specs.declared.commit_frames.header.Header.{Header}
 use Rattle.walsender.specs.Published.{CanBeTold, published_changes, published_with}
 
 changes_fit : (selection : PublicationSet) (cs : List PublishedChange) → AllByRecursion (CanBeTold selection) cs → AllByRecursion (FitsChange (relation selection)) cs

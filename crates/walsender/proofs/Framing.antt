@@ -18,7 +18,7 @@ use Rattle.pgoutput.specs.declared.published.Published.{Published}
 use Rattle.pgoutput.specs.Words.{word_bytes, frames_of}
 use Rattle.pgoutput.specs.Items.{xlogdata_word, keepalive_word, begin_message, commit_message, changes_words, transaction_words}
 use Rattle.walsender.specs.Spelled.{begin_with, commit_with}
-use Rattle.walsender.specs.declared.framing.header.Header.{Header}
+use Rattle.walsender.specs.declared.commit_frames.header.Header.{Header}
 
 length-xlogdata : (start end : ℕ) (clock : ℤ) (payload : List ℕ) → length (xlogdata start end clock payload) ≡ 25 + length payload
 length-xlogdata start end clock payload =

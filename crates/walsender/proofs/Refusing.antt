@@ -12,8 +12,8 @@ use Rattle.shared_log.specs.declared.fault.ReadFault.{ReadFault}
 use Rattle.shared_log.specs.declared.fault.ReadFault.TheVariants as reads
 use Rattle.walsender.specs.declared.fault.SendFault.{SendFault}
 use Rattle.walsender.specs.declared.fault.SendFault.TheVariants as sends
-use Rattle.walsender.specs.declared.turn.turn_fault.TurnFault.{TurnFault}
-use Rattle.walsender.specs.declared.turn.turn_fault.TurnFault.TheVariants as turns
+use Rattle.walsender.specs.declared.stream_turn.turn_fault.TurnFault.{TurnFault}
+use Rattle.walsender.specs.declared.stream_turn.turn_fault.TurnFault.TheVariants as turns
 use Rattle.walsender.specs.Faults.{fault_of_fetch, has_fetched, has_written}
 use Rattle.walsender.specs.Sending.{RanOut, SenderState}
 use Rattle.walsender.specs.Turning.{IsRefused}

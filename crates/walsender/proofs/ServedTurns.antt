@@ -11,13 +11,13 @@ use mathlib.Core.List.{IsPrefix}
 use Rattle.wal.specs.declared.record.Record.{Record}
 use Rattle.wal.specs.Log.{IsWellFormedLog}
 use Rattle.walsender.specs.declared.fault.SendFault.{SendFault}
-use Rattle.walsender.specs.declared.turn.turn_fault.TurnFault.{TurnFault}
-use Rattle.walsender.specs.declared.turn.turn_fault.TurnFault.TheVariants as turns
+use Rattle.walsender.specs.declared.stream_turn.turn_fault.TurnFault.{TurnFault}
+use Rattle.walsender.specs.declared.stream_turn.turn_fault.TurnFault.TheVariants as turns
 use Rattle.walsender.specs.Faults.{has_fetched, has_written}
 use Rattle.walsender.specs.Published.{published_from, published_transactions}
 use Rattle.walsender.specs.Sending.{SenderState, published_bytes}
 use Rattle.walsender.specs.Turning.{IsRefused, ReadAndGave, fetched_from}
-use Rattle.walsender.specs.declared.turn.limits.TheConstants.{TURN_RECORDS}
+use Rattle.walsender.specs.declared.stream_turn.limits.TheConstants.{TURN_RECORDS}
 use Rattle.walsender.specs.Serving.{IsServing, ReadsAndWrites}
 use Rattle.walsender.proofs.ServedSections.{section_of}
 use Rattle.walsender.proofs.Skipping.{reads_behind}

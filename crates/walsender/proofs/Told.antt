@@ -18,7 +18,7 @@ use Rattle.reorder.proofs.Coding.{body_spells, position_of}
 use Rattle.pgoutput.specs.declared.published.Published.{Published}
 use Rattle.pgoutput.specs.declared.published.PublishedChange.{PublishedChange}
 use Rattle.pgoutput.specs.Items.{FitsPublished}
-use Rattle.walsender.specs.declared.framing.header.Header.{Header}
+use Rattle.walsender.specs.declared.commit_frames.header.Header.{Header}
 use Rattle.walsender.specs.Published.{CanBeTold, published_at, published_changes, published_with}
 use Rattle.walsender.proofs.Changes.{there}
 use Rattle.walsender.proofs.Fitting.{commit_fits}

@@ -2,8 +2,8 @@
 use Rattle.std.specs.Prelude.{ℕ, Bool, true, false, Result, Ok, Err}
 use Rattle.shared_log.specs.declared.fault.ReadFault.{ReadFault}
 use Rattle.shared_log.specs.declared.fault.ReadFault.TheVariants as reads
-use Rattle.walsender.specs.declared.turn.turn_fault.TurnFault.{TurnFault}
-use Rattle.walsender.specs.declared.turn.turn_fault.TurnFault.TheVariants as turns
+use Rattle.walsender.specs.declared.stream_turn.turn_fault.TurnFault.{TurnFault}
+use Rattle.walsender.specs.declared.stream_turn.turn_fault.TurnFault.TheVariants as turns
 
 -- why a turn fetched nothing
 abbrev pub fault_of_fetch : ReadFault → TurnFault

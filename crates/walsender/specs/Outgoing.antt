@@ -6,7 +6,7 @@ use Rattle.publication.specs.Selection.{relation, selected_oids}
 use Rattle.pgoutput.specs.declared.published.Published.{Published}
 use Rattle.pgoutput.specs.Items.{Block, bytes_of_items, relations_sent_through}
 use Rattle.reorder.specs.Ready.{ReadyState}
-use Rattle.walsender.specs.declared.framing.header.Header.{Header}
+use Rattle.walsender.specs.declared.commit_frames.header.Header.{Header}
 use Rattle.reorder.specs.Chunks.{IsTidy, live_chunks}
 use Rattle.reorder.specs.Settled.{AreLentIn, after_giving_all_back, lent_chunks, ready_chunks}
 use Rattle.reorder.specs.declared.ready.Step.{Step}

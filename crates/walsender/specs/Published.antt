@@ -8,7 +8,7 @@ use Rattle.tables.specs.declared.change.Change.{Change}
 use Rattle.wal.specs.Log.{Entry, Transaction, note_as_transaction, committed_from}
 use Rattle.publication.specs.Logged.{change_message, note_message}
 use Rattle.publication.specs.Projection.{MessageFits}
-use Rattle.walsender.specs.declared.framing.header.Header.{Header}
+use Rattle.walsender.specs.declared.commit_frames.header.Header.{Header}
 use Rattle.pgoutput.specs.declared.published.Published.{Published}
 use Rattle.pgoutput.specs.declared.published.PublishedChange.{PublishedChange}
 

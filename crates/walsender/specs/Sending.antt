@@ -16,7 +16,7 @@ use Rattle.walsender.specs.declared.fault.SendFault.{SendFault}
 use Rattle.walsender.specs.declared.fault.SendFault.TheVariants.{ArenaFull, Memory}
 use Rattle.walsender.specs.Lent.{AreHeld, AreLastOf, LentTransaction, lent_with, sent_transactions}
 use Rattle.walsender.specs.Published.{published_transactions, published_as, published_from, published_note, published_with, has_message}
-use Rattle.walsender.specs.declared.framing.header.Header.{Header}
+use Rattle.walsender.specs.declared.commit_frames.header.Header.{Header}
 
 -- what determines the bytes to come
 pub record SenderState : Type 0 where

@@ -9,7 +9,7 @@ use Rattle.pgoutput.specs.declared.message.TheConstants.{MESSAGE}
 use Rattle.pgoutput.specs.Logical.{spell_logical, whole_of}
 use Rattle.publication.specs.Publications.{PublicationSet}
 use Rattle.pgoutput.specs.declared.published.PublishedChange.{PublishedChange}
-use Rattle.walsender.specs.declared.framing.header.Header.{Header}
+use Rattle.walsender.specs.declared.commit_frames.header.Header.{Header}
 use Rattle.walsender.specs.Published.{CanBeTold}
 
 -- what was read, and where nothing was, a message that names no table

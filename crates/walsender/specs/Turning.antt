@@ -4,7 +4,7 @@ use Rattle.wal.specs.declared.record.Record.{Record}
 use Rattle.wal.specs.Log.{follows}
 use Rattle.walsender.specs.declared.fault.SendFault.{SendFault}
 use Rattle.walsender.specs.declared.fault.SendFault.TheVariants as sends
-use Rattle.walsender.specs.declared.turn.limits.TheConstants.{TURN_RECORDS}
+use Rattle.walsender.specs.declared.stream_turn.limits.TheConstants.{TURN_RECORDS}
 use Rattle.walsender.specs.Lent.{AreLastOf}
 use Rattle.walsender.specs.Sending.{SenderState, ReadAll, RanOut}
 

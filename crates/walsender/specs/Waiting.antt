@@ -16,7 +16,7 @@ use Rattle.reorder.specs.declared.ready.Step.{Step}
 use Rattle.reorder.specs.declared.ready.Step.TheVariants as steps
 use Rattle.walsender.specs.Published.{published_changes}
 use Rattle.walsender.specs.Spelled.{begin_with, commit_with}
-use Rattle.walsender.specs.declared.framing.header.Header.{Header}
+use Rattle.walsender.specs.declared.commit_frames.header.Header.{Header}
 use Rattle.walsender.specs.declared.held.committed_transaction.CommittedTransaction.{CommittedTransaction}
 
 -- a transaction's changes from the next one on, as they are published

@@ -5,19 +5,19 @@
 //! number of times: `read` or `turn` reads the log on, `keepalive` adds a keepalive, `turn`, `write_held` and `drain_into` give bytes
 //! away. `end` gives the reader back. `Sender` is its core, which is fed records.
 //!
-//! Read `walsender.rt`, `sender.rt`, `framing/publishing.rt`, `framing/making.rt`. Above, one contract is used: what was given away
+//! Read `walsender.rt`, `sender.rt`, `commit_frames/publishing.rt`, `commit_frames/making.rt`. Above, one contract is used: what was given away
 //! since the start and what is held are a stream encoding of exactly what the records that were read publish (`serves`).
 #![tactic(auto)]
 
 mod beginning;
+mod commit_frames;
 mod ended;
 mod fault;
 mod feeding;
-mod framing;
 mod held;
 mod section;
 mod sender;
-mod turn;
+mod stream_turn;
 mod walsender;
 
 pub use beginning::{ClaimFault, StartBackend, StartFault, begin};
@@ -25,7 +25,7 @@ pub use ended::Ended;
 pub use fault::SendFault;
 pub use section::a_section_may_be_fed;
 pub use sender::Sender;
-pub use turn::limits::TURN_RECORDS;
-pub use turn::turn_fault::TurnFault;
-pub use turn::turning::turn;
+pub use stream_turn::limits::TURN_RECORDS;
+pub use stream_turn::turn_fault::TurnFault;
+pub use stream_turn::turning::turn;
 pub use walsender::Walsender;

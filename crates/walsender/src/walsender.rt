@@ -20,8 +20,8 @@ ghost use Rattle.walsender.specs.Serving.{BeginsAt, Gives, GoesOn, Reads, ReadsA
 use crate::ended::Ended;
 use crate::fault::SendFault;
 use crate::sender::Sender;
-use crate::turn::turn_fault::TurnFault;
-use crate::turn::turning::turn;
+use crate::stream_turn::turn_fault::TurnFault;
+use crate::stream_turn::turning::turn;
 use bytes::BytesMut;
 use chgarena::Arena;
 use publication::Selection;

@@ -1,6 +1,6 @@
 //! A committed transaction that is still to be made into bytes.
 
-use crate::framing::header::Header;
+use crate::commit_frames::header::Header;
 use reorder::CommittedChanges;
 
 /// What is left to be made of a committed transaction: its changes from the next one on, and its Commit. Its Begin is made already.

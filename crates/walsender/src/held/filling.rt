@@ -4,8 +4,8 @@ ghost use Rattle.std.specs.Prelude.{◌≡◌, ◌+◌, ◌-◌, ◌<◌, ◌≤
 ghost use Rattle.walsender.specs.declared.held.committed_transaction.CommittedTransaction.{CommittedTransaction};
 ghost use Rattle.walsender.specs.Outgoing.{HoldsSame, IsFilled, IsOutgoing, held_of};
 
-use crate::framing::bounds::put_commit_of;
-use crate::framing::making::{LEAST_ROOM, MAX_FRAME_LENGTH, next_frame};
+use crate::commit_frames::bounds::put_commit_of;
+use crate::commit_frames::making::{LEAST_ROOM, MAX_FRAME_LENGTH, next_frame};
 use crate::held::outgoing::Outgoing;
 use publication::Selection;
 use reorder::Reorder;

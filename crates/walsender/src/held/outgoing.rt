@@ -11,9 +11,9 @@ ghost use Rattle.pgoutput.specs.Items.{keepalive_word};
 ghost use Rattle.walsender.specs.Outgoing.{AddsBytes, IsSameQueue, IsSized, Queues, StaysQueued};
 ghost use Rattle.walsender.specs.Waiting.{begin_bytes};
 
-use crate::framing::bounds::{BEGIN_FRAME_LENGTH, put_begin};
-use crate::framing::header::Header;
-use crate::framing::word::{put_keepalive, put_spelled};
+use crate::commit_frames::bounds::{BEGIN_FRAME_LENGTH, put_begin};
+use crate::commit_frames::header::Header;
+use crate::commit_frames::word::{put_keepalive, put_spelled};
 use crate::held::committed_transaction::CommittedTransaction;
 use bytes::{BufMut, BytesMut};
 use pqformat::whole_or_nothing;

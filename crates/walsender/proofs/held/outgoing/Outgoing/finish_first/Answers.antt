@@ -4,7 +4,7 @@ use Rattle.std.proofs.lemmas.List.{length-drop, length-take-le, with_items_is}
 use Rattle.std.proofs.Common.{◌≡◌, ◌+◌, ◌-◌, ◌++◌, ◌∙◌, List, ℕ, drop, length, take, refl, ap, arith}
 use Rattle.walsender.specs.declared.held.outgoing.Outgoing.{Outgoing}
 use Rattle.walsender.specs.declared.held.outgoing.TheConstants.{FRAMES_LENGTH}
-use Rattle.walsender.specs.declared.framing.making.TheConstants.{LEAST_ROOM}
+use Rattle.walsender.specs.declared.commit_frames.making.TheConstants.{LEAST_ROOM}
 use Rattle.walsender.specs.Waiting.{commit_bytes}
 use Rattle.walsender.proofs.Frames.{ComesToFrames, first_over, mid_length, mid_taken, room_there}
 use Rattle.walsender.proofs.held.outgoing.Outgoing.finish_first.Goals as goal

@@ -1,6 +1,6 @@
 use Rattle.std.proofs.Common.{◌≡◌, [], deque_len, sym, ap, ◌∙◌, arith}
 use Rattle.std.proofs.lemmas.Bool.{eqb-true}
-use Rattle.walsender.specs.declared.framing.making.TheConstants.{LEAST_ROOM}
+use Rattle.walsender.specs.declared.commit_frames.making.TheConstants.{LEAST_ROOM}
 use Rattle.walsender.specs.declared.held.outgoing.Outgoing.{Outgoing}
 use Rattle.walsender.proofs.Frames.{last_moved, room_there}
 use Rattle.walsender.proofs.Emptied.{empty_is}

@@ -1,7 +1,7 @@
 use Rattle.std.proofs.Common.{◌≡◌, ◌+◌, ◌<◌, ◌≤◌, ◌∷◌, ◌∙◌, ◌⊎◌, ℕ, List, true, false, ap, arith, length, nat_lt, subst, sym, ⊎_elim}
 use Rattle.std.proofs.lemmas.Bool.{cases_lt}
 use Rattle.std.proofs.lemmas.Bool.Decides.{nat_tests}
-use Rattle.walsender.specs.declared.framing.making.TheConstants.{MAX_FRAME_LENGTH}
+use Rattle.walsender.specs.declared.commit_frames.making.TheConstants.{MAX_FRAME_LENGTH}
 use Rattle.walsender.specs.declared.held.outgoing.Outgoing.{Outgoing}
 use Rattle.walsender.specs.declared.held.committed_transaction.CommittedTransaction.{CommittedTransaction}
 use Rattle.walsender.specs.Waiting.{AreWithin, places}

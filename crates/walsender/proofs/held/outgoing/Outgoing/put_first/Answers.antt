@@ -4,7 +4,7 @@ use Rattle.std.specs.VecDeque.{deque_with_item}
 use Rattle.std.proofs.lemmas.List.{length-drop, length-take-le}
 use Rattle.std.proofs.Common.{◌≡◌, ◌<◌, ◌≤◌, ◌+◌, ◌-◌, ◌∙◌, ℕ, List, drop, length, refl, sym, ap, subst, arith}
 use Rattle.walsender.specs.declared.held.outgoing.Outgoing.{Outgoing}
-use Rattle.walsender.specs.declared.framing.making.TheConstants.{LEAST_ROOM}
+use Rattle.walsender.specs.declared.commit_frames.making.TheConstants.{LEAST_ROOM}
 use Rattle.walsender.specs.Outgoing.{HoldsSame, IsFilled}
 use Rattle.walsender.specs.declared.held.committed_transaction.CommittedTransaction.{CommittedTransaction}
 use Rattle.walsender.proofs.Frames.{first_is, room_there}
