@@ -1,8 +1,9 @@
 //! A service that publishes, and a follower of it, by the calls that are made to build one.
 
-use crate::hub_fixture::opened;
 use follower::{Change, FollowFault, Follower, Options, Transaction};
-use hub::{Hub, HubName, Service, field, with_hub};
+use hub::{
+    Hub, HubBuilder, HubName, NewMember, NewPublication, NewTable, Service, field, with_hub,
+};
 use std::alloc::Global;
 use std::net::{Net, SocketAddr, TcpListener, TcpStream};
 use std::random::RandomSource;
@@ -93,7 +94,13 @@ fn a_service_is_followed(rt: HostRuntime) -> Result<(), Fail> {
     let alloc = rt.alloc();
     let listener = TcpListener::bind(&rt, "127.0.0.1:0")?;
     let address = listener.local_addr()?;
-    let builder = opened(alloc)?;
+    let columns = [("id", "int4"), ("name", "text"), ("qty", "int8")];
+    let item = NewTable::new("public", "item")
+        .columns(&columns)
+        .key(&["id"]);
+    let members = [NewMember::new(TABLE)];
+    let publications = [NewPublication::new("p", &members)];
+    let builder = HubBuilder::of_tables(alloc, "test", &[item], &publications, 1000)?;
     let (seen, written) = thread::join(
         &rt,
         || follow_all(&rt, alloc, address),
