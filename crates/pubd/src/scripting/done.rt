@@ -65,9 +65,9 @@ pub(crate) fn commit_now<L: LogName + SlotName, R: Wait + Clock>(
 
 /// Does a session's line under the publisher's lock, once there is room for it where there can be. `AllocError` where memory to
 /// keep its transaction is refused (V2).
-pub(crate) fn do_event<L: LogName + SlotName, R: Wait + Clock>(
-    rt: &R,
-    hub: &Hub<L>,
+pub(crate) fn do_event<'h, L: LogName + SlotName, R: Wait + Clock>(
+    rt: &'h R,
+    hub: &'h Hub<L>,
     sessions: &mut Sessions,
     event: &Event,
 ) -> Result<Done, AllocError> {
