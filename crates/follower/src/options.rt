@@ -10,6 +10,8 @@ pub struct Options<'a> {
     pub slot: &'a str,
     /// Where the stream should begin. A slot that is confirmed further begins there.
     pub position: u64,
+    /// The system that the position is of, as IDENTIFY_SYSTEM names it, where that is known: another one is refused (K7).
+    pub system: Option<&'a str>,
     /// Names of publications, joined by commas, as `publication_names` takes them.
     pub publications: &'a str,
     /// Whether the messages that sessions put into the log are asked for too, by the option `messages` of
@@ -36,6 +38,7 @@ impl<'a> Options<'a> {
             create: true,
             slot,
             position: 0,
+            system: None,
             publications,
             messages: false,
             count: u32::MAX,

@@ -1,12 +1,13 @@
 //! A row of a stream, whose values are asked for by the names of their columns.
 
-ghost use Rattle.std.specs.Prelude.{◌≡◌, ◌&&◌, IfSome, Some, position};
+ghost use Rattle.std.specs.Prelude.{◌≡◌, ◌&&◌, IfOk, IfSome, Some, length, position};
 ghost use Rattle.std.specs.Option.{option_copied};
 ghost use Rattle.std.specs.Str.{bytes_eq};
 ghost use Rattle.pgoutput.specs.declared.tuple.Cell.TheVariants as cells;
 ghost use Rattle.follower.specs.Rows.{cell_named};
 
 use pgoutput::{Cell, Column, Relation};
+use std::alloc::{AllocError, Global};
 
 /// The OIDs of the types with values of Rust (PostgreSQL 15, pg_type).
 const BOOL_OID: u32 = 16;
@@ -25,6 +26,36 @@ pub struct Row<'a> {
 }
 
 impl<'a> Row<'a> {
+    /// What was told of its table: OID, schema, name, and the columns that are published.
+    pub fn table(&self) -> &'a Relation
+        ensures { result.now ≡ self.now.relation.now }
+    {
+        self.relation
+    }
+
+    /// What was sent of each column, in the order of the table's columns.
+    pub fn cells(&self) -> &'a [Cell]
+        ensures { result.now ≡ self.now.cells.now }
+    {
+        self.cells
+    }
+
+    /// The values as one keeps them, in the order of the table's columns: null, or a text. A long one that is unchanged and wasn't sent
+    /// is as it was before. `AllocError` where memory for them is refused.
+    pub fn values(
+        &self,
+        alloc: Global,
+        before: &[Option<String>],
+    ) -> Result<Vec<Option<String>>, AllocError>
+        ensures { IfOk result (λ values. length values.items ≡ length self.now.cells.now) }
+    {
+        let mut values = Vec::new(alloc);
+        for (at, cell) in self.cells.iter().enumerate() {
+            values.push(value_of(alloc, cell, before.get(at))?)?;
+        }
+        Ok(values)
+    }
+
     /// Whether it is of the table of this schema and name.
     pub fn is_of(&self, schema: &str, name: &str) -> bool
         ensures { result
@@ -90,6 +121,22 @@ impl<'a> Row<'a> {
             return None;
         }
         self.text(column)
+    }
+}
+
+/// The value of a cell that was this before.
+fn value_of(
+    alloc: Global,
+    cell: &Cell,
+    before: Option<&Option<String>>,
+) -> Result<Option<String>, AllocError> {
+    match cell {
+        Cell::Null => Ok(None),
+        Cell::Text(text) => Ok(Some(text.as_str().to_string(alloc)?)),
+        Cell::Unchanged => match before {
+            Some(value) => value.clone(),
+            None => Ok(None),
+        },
     }
 }
 
