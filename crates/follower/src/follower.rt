@@ -1,6 +1,6 @@
 //! A loop of transactions: each is handed out once, and acknowledged when its caller says so.
 
-ghost use Rattle.std.specs.Prelude.{◌≡◌, ◌+◌, ◌<◌, [], IfOk, IfSome, OnOk, false, length, slice_get};
+ghost use Rattle.std.specs.Prelude.{◌≡◌, ◌≢◌, ◌+◌, ◌<◌, [], IfOk, IfSome, OnOk, false, length, slice_get};
 ghost use Rattle.std.specs.Option.{option_map};
 ghost use Rattle.std.specs.Io.KnownBytes.{Appends};
 ghost use Rattle.follower.specs.Once.{Gains};
@@ -228,6 +228,9 @@ impl<S: Peer> Follower<S> {
         ensures done { self.old.handed ≡ length self.old.receiver.applier.subscriber.applied →
             (self.new.acknowledged ≡ self.old.receiver.applier.subscriber.position)
             × (self.new.receiver.applier.subscriber.applied ≡ []) }
+        ensures waits { self.old.handed ≢ length self.old.receiver.applier.subscriber.applied →
+            (self.new.acknowledged ≡ self.old.acknowledged)
+            × (self.new.receiver ≡ self.old.receiver) }
         ensures told { OnOk result (Appends (S.contents self.old.socket) (S.contents self.new.socket)
             (status_at self.new.acknowledged self.new.clock false)) }
     {

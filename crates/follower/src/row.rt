@@ -1,10 +1,10 @@
 //! A row of a stream, whose values are asked for by the names of their columns.
 
-ghost use Rattle.std.specs.Prelude.{◌≡◌, ◌&&◌, IfOk, IfSome, Some, length, position};
-ghost use Rattle.std.specs.Option.{option_copied};
+ghost use Rattle.std.specs.Prelude.{◌≡◌, ◌&&◌, ◌<◌, ℕ, IfOk, IfSome, None, Some, get_or, length, position, slice_get, string_bytes};
+ghost use Rattle.std.specs.Option.{option_and_then, option_copied, option_map};
 ghost use Rattle.std.specs.Str.{bytes_eq};
 ghost use Rattle.pgoutput.specs.declared.tuple.Cell.TheVariants as cells;
-ghost use Rattle.follower.specs.Rows.{cell_named};
+ghost use Rattle.follower.specs.Rows.{cell_named, kept_of};
 
 use pgoutput::{Cell, Column, Relation};
 use std::alloc::{AllocError, Global};
@@ -47,11 +47,15 @@ impl<'a> Row<'a> {
         alloc: Global,
         before: &[Option<String>],
     ) -> Result<Vec<Option<String>>, AllocError>
-        ensures { IfOk result (λ values. length values.items ≡ length self.now.cells.now) }
+        ensures { IfOk result (λ values. (length values.items ≡ length self.now.cells.now)
+            × ((i : ℕ) → i < length self.now.cells.now →
+            option_map string_bytes (get_or values.items i None)
+            ≡ kept_of (get_or self.now.cells.now i cells.Null)
+            (option_and_then (option_map string_bytes) (slice_get before.now i)))) }
     {
         let mut values = Vec::new(alloc);
         for (at, cell) in self.cells.iter().enumerate() {
-            values.push(value_of(alloc, cell, before.get(at))?)?;
+            values.push(value_of(alloc, cell, before, at)?)?;
         }
         Ok(values)
     }
@@ -124,19 +128,30 @@ impl<'a> Row<'a> {
     }
 }
 
-/// The value of a cell that was this before.
+/// The value of a cell that stands there, and had its value before there.
 fn value_of(
     alloc: Global,
     cell: &Cell,
-    before: Option<&Option<String>>,
-) -> Result<Option<String>, AllocError> {
+    before: &[Option<String>],
+    at: usize,
+) -> Result<Option<String>, AllocError>
+    ensures { IfOk result (λ value. option_map string_bytes value
+        ≡ kept_of cell.now (option_and_then (option_map string_bytes) (slice_get before.now at))) }
+{
     match cell {
         Cell::Null => Ok(None),
-        Cell::Text(text) => Ok(Some(text.as_str().to_string(alloc)?)),
-        Cell::Unchanged => match before {
-            Some(value) => value.clone(),
-            None => Ok(None),
-        },
+        Cell::Text(text) => Ok(Some(String::from_str(alloc, text.as_str())?)),
+        Cell::Unchanged => copy_of(before.get(at)),
+    }
+}
+
+fn copy_of(value: Option<&Option<String>>) -> Result<Option<String>, AllocError>
+    ensures { IfOk result (λ copy. option_map string_bytes copy
+        ≡ option_and_then (option_map string_bytes) (option_copied value.entry)) }
+{
+    match value {
+        Some(Some(text)) => Ok(Some(text.clone()?)),
+        Some(None) | None => Ok(None),
     }
 }
 
