@@ -40,6 +40,10 @@ columns = [["k", "text"], ["v", "int4"]]
 [[publication]]
 name = "p"
 all_tables = true
+
+[[publication]]
+name = "tags"
+tables = [{{ name = "public.tag" }}]
 """
 NAMES = {ITEM: "public.item", TAG: "public.tag"}
 
@@ -124,7 +128,11 @@ def told(values):
 def printed(tables):
     """What a cache prints of them, in the order of the lines."""
     values = [(table, row) for table, rows in tables.rows.items() for row in rows.values()]
-    return sorted(f"{table} [{', '.join('None' if value is None else f'''Some("{value}")''' for value in row)}]" for table, row in values)
+    return sorted(f"{table} [{', '.join(map(shown, row))}]" for table, row in values)
+
+
+def shown(value):
+    return "None" if value is None else f'Some("{value}")'
 
 
 def a_cache_holds_what_was_committed(pubd, cache):
@@ -169,3 +177,19 @@ def another_system_is_refused_by_a_cache(pubd, cache):
             server.process.kill()
     refused = follower.returncode == 1 and "K7: the server is system 43" in said
     return wrong + [f"it ends with {follower.returncode}, and says {said!r}"] * (not refused)
+
+
+def a_cache_holds_up_nothing_that_it_is_not_sent(pubd, cache):
+    """Its slot is confirmed past a transaction of which nothing is published, once it is asked after that was read."""
+    lines = ["begin T", "insert T public.item (1,'ab',7)", "commit T 1", "ask s", "await s 0/1000050 1", "ask s", "await s 0/1000050 30"]
+    lines += ["begin T", "insert T public.tag ('k',1)", "commit T 2"]
+    with tempfile.TemporaryDirectory() as folder:
+        configuration = pathlib.Path(folder) / "configuration"
+        configuration.write_text(TABLES)
+        with Server(pubd, 1, lines, awaited=1, configuration=configuration) as server:
+            words = [cache, f"127.0.0.1:{server.port}", "s", "tags", "1"]
+            ran = subprocess.run(words, capture_output=True, text=True, timeout=60)
+            server.process.wait()
+            told = server.process.stderr.read()
+    wrong = [f"it ends with {ran.returncode}, and prints {ran.stdout!r}"] * (ran.returncode != 0 or ran.stdout != f'{TAG} [Some("k"), Some("1")]\n')
+    return wrong + [f"its slot stays back: {told}"] * (f"{server.script} 7 ok" not in told)

@@ -191,7 +191,7 @@ impl<S: Peer> Follower<S> {
         match self.incoming.receive_more(&mut self.socket) {
             Err(FollowFault::Silent) if !self.is_asked => {
                 self.is_asked = true;
-                self.tell(true)
+                self.tell(self.done(), true)
             }
             read => {
                 self.is_asked = false;
@@ -217,7 +217,7 @@ impl<S: Peer> Follower<S> {
         let data = carried(frame, taken)?;
         match body_in(&data)? {
             ServerBody::XLogData(message) => self.tables.learn(message.payload),
-            ServerBody::Keepalive(keepalive) if keepalive.ask => self.tell(false),
+            ServerBody::Keepalive(keepalive) if keepalive.ask => self.tell(self.done(), false),
             ServerBody::Keepalive(_) => Ok(()),
         }
     }
@@ -240,7 +240,7 @@ impl<S: Peer> Follower<S> {
             self.handed = 0;
         }
         self.clock = clock_now(rt, self.clock);
-        self.tell(false)
+        self.tell(self.acknowledged, false)
     }
 
     /// Ends the stream from this side, and the connection.
@@ -251,13 +251,27 @@ impl<S: Peer> Follower<S> {
         send(self.alloc, &mut self.socket, &Front::CopyDone)
     }
 
+    /// All that ends up to there is done with; where nothing waits for its caller, also what was read without a transaction in it, so
+    /// that the server needn't keep that.
+    fn done(&self) -> u64
+        ensures idle { self.now.receiver.applier.subscriber.applied ≡ [] →
+            result ≡ self.now.receiver.applier.subscriber.position }
+        ensures busy { self.now.receiver.applier.subscriber.applied ≢ [] →
+            result ≡ self.now.acknowledged }
+    {
+        if self.receiver.unprinted().is_empty() {
+            return self.receiver.position();
+        }
+        self.acknowledged
+    }
+
     /// Tells the server how far its client is, and may ask for a keepalive.
-    fn tell(&mut self, ask: bool) -> Result<(), FollowFault>
+    fn tell(&mut self, position: u64, ask: bool) -> Result<(), FollowFault>
         ensures same { self.new ≡ record self.old { socket = self.new.socket } }
         ensures ok { OnOk result (Appends (S.contents self.old.socket) (S.contents self.new.socket)
-            (status_at self.old.acknowledged self.old.clock ask)) }
+            (status_at position self.old.clock ask)) }
     {
-        let status = status_of(self.alloc, self.acknowledged, self.clock, ask);
+        let status = status_of(self.alloc, position, self.clock, ask);
         let (_, given) = give(&status, &mut self.socket);
         given.map_err(FollowFault::Connection)
     }
