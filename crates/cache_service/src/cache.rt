@@ -9,7 +9,8 @@ use std::io::Print;
 /// The values of a row, or those of its key, in the order of the columns: null, or a text.
 type Values = Vec<Option<String>>;
 
-/// The rows as they are once all that ends up to a position is applied.
+/// The rows as they are once all that ends up to a position is applied. Their keys have at most 2,000 bytes: a longer text that stays isn't
+/// sent again, and then the key isn't known.
 #[derive(Drop)]
 pub struct Cache {
     alloc: Global,
@@ -17,8 +18,9 @@ pub struct Cache {
     rows: BTreeMap<(u32, Values), Values>,
     /// The system that is followed, once it is known.
     pub system: Option<String>,
+    /// All that ends up to there is applied.
     pub position: u64,
-    /// How many are applied.
+    /// How many transactions are applied.
     pub transactions: u32,
 }
 
