@@ -22,6 +22,11 @@ from authentication import (
     strangers_shut_nobody_out,
 )
 from beginning import a_start_ahead_of_its_slot_is_refused, a_stream_tells_where_it_is, wrong_keepalive
+from caching import (
+    a_cache_holds_up_nothing_that_it_is_not_sent,
+    a_cache_holds_what_was_committed,
+    another_system_is_refused_by_a_cache,
+)
 from clocks import a_client_sees_clocks_of_its_own_time, a_follower_tells_the_time_whatever_its_server_tells
 from closing import an_acknowledgement_holds_over_a_blocked_write, an_acknowledgement_holds_over_a_close
 from connection import STARTUP, Connection, Refused, keepalive, refusal_of_one_more, status
@@ -433,6 +438,8 @@ LONG = [
     who_reads_no_answer_before_its_startup_is_let_go,
     a_slow_reader_of_the_page_holds_up_nobody,
 ]
+# What cache_service holds: it takes the place of subcat.
+OF_CACHES = [a_cache_holds_what_was_committed, a_cache_holds_up_nothing_that_it_is_not_sent, another_system_is_refused_by_a_cache]
 ALL = [
     a_conversation_goes_frame_by_frame,
     an_extended_query_is_refused_and_its_session_goes_on,

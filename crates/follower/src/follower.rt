@@ -1,24 +1,24 @@
 //! A loop of transactions: each is handed out once, and acknowledged when its caller says so.
 
-ghost use Rattle.std.specs.Prelude.{◌≡◌, ◌+◌, ◌<◌, [], IfOk, IfSome, OnOk, false, length, slice_get};
+ghost use Rattle.std.specs.Prelude.{◌≡◌, ◌≢◌, ◌+◌, ◌<◌, [], IfOk, IfSome, OnOk, false, length, slice_get};
 ghost use Rattle.std.specs.Option.{option_map};
 ghost use Rattle.std.specs.Io.KnownBytes.{Appends};
 ghost use Rattle.follower.specs.Once.{Gains};
 ghost use Rattle.follower.specs.Standing.{status_at};
 
-use crate::asking::{create_if_absent, greet, send, start_stream};
+use crate::asking::{ask_system, create_if_absent, greet, send, start_stream};
 use crate::fault::FollowFault;
 use crate::giving::give;
 use crate::incoming::Incoming;
 use crate::options::Options;
 use crate::peer::Peer;
+use crate::resuming::judge_asked;
 use crate::stream_receiver::StreamReceiver;
 use crate::streamed::{body_in, carried};
 use crate::told_tables::ToldTables;
 use crate::transaction::Transaction;
 use client::{Applier, ClientFault};
-use copyboth::clock_now;
-use copyboth::ServerBody;
+use copyboth::{ServerBody, clock_now};
 use frames::{Back, Front};
 use std::alloc::Global;
 use std::random::RandomSource;
@@ -28,7 +28,7 @@ use std::time::Clock;
 /// A slot that is followed over one connection, transaction by transaction:
 ///
 /// ```text
-/// let mut follower = Follower::new(rt, alloc, socket, &Options::new("mine", "p"))?;
+/// let mut follower = Follower::new(rt, alloc, connect(rt, address)?, &Options::new("mine", "p"))?;
 /// while let Some(transaction) = follower.next(rt)? {
 ///     for change in transaction.changes() {
 ///         if let Change::Insert(row) = transaction.read(change)? { .. row.int4("id") .. }
@@ -37,7 +37,8 @@ use std::time::Clock;
 /// }
 /// ```
 ///
-/// Where the connection is lost, another follower goes on whose options have the position that was acknowledged last.
+/// Where the connection is lost (`FollowFault::is_passing`), another follower goes on whose options have the system, the position up to
+/// which all is done with, and no leave to create the slot: one that is created anew has lost what lies before.
 #[derive(Drop)]
 pub struct Follower<S> {
     alloc: Global,
@@ -45,6 +46,8 @@ pub struct Follower<S> {
     incoming: Incoming,
     receiver: StreamReceiver,
     tables: ToldTables,
+    /// Which system the server says it is.
+    system: String,
     /// How many of those that are there were handed out.
     handed: usize,
     /// All that ends up to there is done with.
@@ -58,8 +61,13 @@ pub struct Follower<S> {
 }
 
 impl<S: Peer> Follower<S> {
-    /// Asks for the stream of the options: its slot is created unless it is there, if they say so. K4 is what the server refused, K9 where a
-    /// password isn't proved, K6 where the connection fails.
+    /// Asks for the stream of the options, which begins at their position or where the slot is confirmed further; the slot is created
+    /// unless it is there, if they say so. Their count, form and send times are of no use here.
+    ///
+    /// `Server` (K4) is what the server refused, `Login` (K9) that a password isn't proved that it asks for, `OtherSystem` (K7) that it is
+    /// another system than the options say, `Client` that it says what belongs to no answer (K1, K2) or memory is refused (K5). K6 comes
+    /// where a command with these names is too long to be sent (`LongCommand`), and where the connection failed (`Connection`), fell
+    /// silent (`Silent`) or ended early (`Ended`).
     pub fn new<R: Wait + RandomSource>(
         rt: &R,
         alloc: Global,
@@ -71,6 +79,8 @@ impl<S: Peer> Follower<S> {
     {
         let mut incoming = Incoming::new(alloc);
         greet(rt, alloc, &mut incoming, &mut socket, options)?;
+        let system = ask_system(rt, alloc, &mut incoming, &mut socket)?;
+        judge_asked(alloc, options, system.as_str())?;
         if options.create {
             create_if_absent(rt, alloc, &mut incoming, &mut socket, options.slot)?;
         }
@@ -82,6 +92,7 @@ impl<S: Peer> Follower<S> {
             incoming,
             receiver: StreamReceiver::new(alloc, position, u32::MAX),
             tables: ToldTables::new(alloc),
+            system,
             handed: 0,
             acknowledged: position,
             clock: 0,
@@ -90,11 +101,16 @@ impl<S: Peer> Follower<S> {
         })
     }
 
-    /// All that ends up to there is done with.
+    /// All that ends up to there is done with: where another follower may go on.
     pub fn position(&self) -> u64
         ensures { result ≡ self.now.acknowledged }
     {
         self.acknowledged
+    }
+
+    /// Which system the server says it is. A position is of its log, and says nothing of another's.
+    pub fn system(&self) -> &str {
+        self.system.as_str()
     }
 
     /// Waits for the next transaction, or message outside of all transactions. None: the server has ended the stream, and all of it
@@ -175,7 +191,7 @@ impl<S: Peer> Follower<S> {
         match self.incoming.receive_more(&mut self.socket) {
             Err(FollowFault::Silent) if !self.is_asked => {
                 self.is_asked = true;
-                self.tell(true)
+                self.tell(self.done(), true)
             }
             read => {
                 self.is_asked = false;
@@ -201,7 +217,7 @@ impl<S: Peer> Follower<S> {
         let data = carried(frame, taken)?;
         match body_in(&data)? {
             ServerBody::XLogData(message) => self.tables.learn(message.payload),
-            ServerBody::Keepalive(keepalive) if keepalive.ask => self.tell(false),
+            ServerBody::Keepalive(keepalive) if keepalive.ask => self.tell(self.done(), false),
             ServerBody::Keepalive(_) => Ok(()),
         }
     }
@@ -212,6 +228,9 @@ impl<S: Peer> Follower<S> {
         ensures done { self.old.handed ≡ length self.old.receiver.applier.subscriber.applied →
             (self.new.acknowledged ≡ self.old.receiver.applier.subscriber.position)
             × (self.new.receiver.applier.subscriber.applied ≡ []) }
+        ensures waits { self.old.handed ≢ length self.old.receiver.applier.subscriber.applied →
+            (self.new.acknowledged ≡ self.old.acknowledged)
+            × (self.new.receiver ≡ self.old.receiver) }
         ensures told { OnOk result (Appends (S.contents self.old.socket) (S.contents self.new.socket)
             (status_at self.new.acknowledged self.new.clock false)) }
     {
@@ -221,7 +240,7 @@ impl<S: Peer> Follower<S> {
             self.handed = 0;
         }
         self.clock = clock_now(rt, self.clock);
-        self.tell(false)
+        self.tell(self.acknowledged, false)
     }
 
     /// Ends the stream from this side, and the connection.
@@ -232,13 +251,27 @@ impl<S: Peer> Follower<S> {
         send(self.alloc, &mut self.socket, &Front::CopyDone)
     }
 
+    /// All that ends up to there is done with; where nothing waits for its caller, also what was read without a transaction in it, so
+    /// that the server needn't keep that.
+    fn done(&self) -> u64
+        ensures idle { self.now.receiver.applier.subscriber.applied ≡ [] →
+            result ≡ self.now.receiver.applier.subscriber.position }
+        ensures busy { self.now.receiver.applier.subscriber.applied ≢ [] →
+            result ≡ self.now.acknowledged }
+    {
+        if self.receiver.unprinted().is_empty() {
+            return self.receiver.position();
+        }
+        self.acknowledged
+    }
+
     /// Tells the server how far its client is, and may ask for a keepalive.
-    fn tell(&mut self, ask: bool) -> Result<(), FollowFault>
+    fn tell(&mut self, position: u64, ask: bool) -> Result<(), FollowFault>
         ensures same { self.new ≡ record self.old { socket = self.new.socket } }
         ensures ok { OnOk result (Appends (S.contents self.old.socket) (S.contents self.new.socket)
-            (status_at self.old.acknowledged self.old.clock ask)) }
+            (status_at position self.old.clock ask)) }
     {
-        let status = status_of(self.alloc, self.acknowledged, self.clock, ask);
+        let status = status_of(self.alloc, position, self.clock, ask);
         let (_, given) = give(&status, &mut self.socket);
         given.map_err(FollowFault::Connection)
     }

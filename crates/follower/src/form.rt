@@ -1,6 +1,6 @@
 //! The two forms of lines.
 
-/// How messages are printed.
+/// How messages are printed, a line each.
 #[derive(Clone, Copy, PartialEq, Eq)]
 pub enum Form {
     /// A line for people, as `message_lines::render` has it.

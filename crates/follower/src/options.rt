@@ -7,15 +7,19 @@ use crate::form::Form;
 pub struct Options<'a> {
     /// Whether the slot is created first.
     pub create: bool,
+    /// The name of the slot: 1 to 63 lower-case letters, digits and underscores, else the server refuses it (42602).
     pub slot: &'a str,
-    /// Where the stream should begin. A slot that is confirmed further begins there.
+    /// Where the stream should begin, a byte position of the server's log; 0 for where the slot is. A slot that is confirmed further begins
+    /// there.
     pub position: u64,
+    /// The system that the position is of, as IDENTIFY_SYSTEM names it, where that is known: another one is refused (K7).
+    pub system: Option<&'a str>,
     /// Names of publications, joined by commas, as `publication_names` takes them.
     pub publications: &'a str,
     /// Whether the messages that sessions put into the log are asked for too, by the option `messages` of
     /// START_REPLICATION (PostgreSQL 15, 55.5).
     pub messages: bool,
-    /// After so many transactions the stream is ended. A message outside of one counts as one.
+    /// After so many transactions `follow` and `resume` end the stream. A message outside of one counts as one.
     pub count: u32,
     /// How it is printed.
     pub form: Form,
@@ -36,6 +40,7 @@ impl<'a> Options<'a> {
             create: true,
             slot,
             position: 0,
+            system: None,
             publications,
             messages: false,
             count: u32::MAX,

@@ -9,15 +9,18 @@ use crate::form::Form;
 use crate::line::Line;
 use std::alloc::{AllocError, Global};
 
-/// Of the lines that were read, those up to the last whole Commit or note: how long they are, how many transactions and notes, how
-/// many changes of tables, and a position of the log after the last of them.
+/// Of the lines that were read, those up to the last whole Commit or note, and what stands after them.
 #[derive(Clone, Copy)]
 pub struct ResumePoint {
+    /// How many bytes the lines take up to there.
     pub length: u64,
+    /// How many transactions and notes they tell.
     pub transactions: u32,
+    /// How many changes of tables they tell.
     pub changes: u64,
+    /// The end of the last transaction, or one byte after the start of the last note; 0 where there is none.
     pub position: u64,
-    /// How long the lines are that were read after those.
+    /// How many bytes the lines take that were read after those.
     pub rest: u64,
     /// How many changes they tell.
     pub rest_changes: u64,

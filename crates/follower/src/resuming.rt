@@ -68,7 +68,7 @@ impl Subscription {
 /// more is read, and where the server asks. Where a read of the socket gives up, the server is asked for a keepalive; where the
 /// next one does too, it is silent. After all of them stands the last line of the form, if it has one.
 ///
-/// Faults as of `follow`, and `OtherSystem` (K7) where the server is another system than before. Where the fault is a passing one
+/// Faults as of `follow`, and `OtherSystem` (K7) where the server is another system than before, or than the options say. Where the fault is a passing one
 /// (`FollowFault::is_passing`), the subscription goes on over another connection. Once all is printed, a connection that is lost is
 /// no fault.
 pub fn resume<R: Wait + Clock + RandomSource, S: Peer, W: Output>(
@@ -133,6 +133,7 @@ impl Subscription {
     {
         greet(rt, self.alloc, incoming, socket, options)?;
         let system = ask_system(rt, self.alloc, incoming, socket)?;
+        judge_asked(self.alloc, options, system.as_str())?;
         self.meet(system, output)?;
         if options.create && !self.is_created {
             create_if_absent(rt, self.alloc, incoming, socket, options.slot)?;
@@ -253,6 +254,18 @@ impl Subscription {
         self.delivery.print_last(output)?;
         let _ = self.delivery.end_stream(socket);
         Ok(())
+    }
+}
+
+/// Refuses a server that is another system than the options say, where they say one (K7).
+pub(crate) fn judge_asked(
+    alloc: Global,
+    options: &Options<'_>,
+    system: &str,
+) -> Result<(), FollowFault> {
+    match options.system {
+        Some(before) => judge(alloc, before, system.to_string(alloc)?),
+        None => Ok(()),
     }
 }
 

@@ -6,9 +6,10 @@ ghost use Rattle.follower.specs.Retrying.{is_passing, is_passing_code};
 
 use crate::fault::FollowFault;
 
-/// The first pause, and the longest one, in milliseconds.
+/// The first pause, in milliseconds.
 pub const SHORTEST_PAUSE: u64 = 100;
 
+/// The longest pause, in milliseconds.
 pub const LONGEST_PAUSE: u64 = 5_000;
 
 /// The pauses before tries, in milliseconds: each is twice the one before, up to the longest; where something came meanwhile,
@@ -21,6 +22,7 @@ pub struct Pauses {
 }
 
 impl Pauses {
+    /// Before the first try.
     pub fn new() -> Self
         ensures { result.next ≡ SHORTEST_PAUSE }
     {

@@ -1,12 +1,13 @@
 //! A row of a stream, whose values are asked for by the names of their columns.
 
-ghost use Rattle.std.specs.Prelude.{◌≡◌, ◌&&◌, IfSome, Some, position};
-ghost use Rattle.std.specs.Option.{option_copied};
+ghost use Rattle.std.specs.Prelude.{◌≡◌, ◌&&◌, ◌<◌, ℕ, IfOk, IfSome, None, Some, get_or, length, position, slice_get, string_bytes};
+ghost use Rattle.std.specs.Option.{option_and_then, option_copied, option_map};
 ghost use Rattle.std.specs.Str.{bytes_eq};
 ghost use Rattle.pgoutput.specs.declared.tuple.Cell.TheVariants as cells;
-ghost use Rattle.follower.specs.Rows.{cell_named};
+ghost use Rattle.follower.specs.Rows.{cell_named, kept_of};
 
 use pgoutput::{Cell, Column, Relation};
+use std::alloc::{AllocError, Global};
 
 /// The OIDs of the types with values of Rust (PostgreSQL 15, pg_type).
 const BOOL_OID: u32 = 16;
@@ -25,6 +26,40 @@ pub struct Row<'a> {
 }
 
 impl<'a> Row<'a> {
+    /// What was told of its table: OID, schema, name, and the columns that are published.
+    pub fn table(&self) -> &'a Relation
+        ensures { result.now ≡ self.now.relation.now }
+    {
+        self.relation
+    }
+
+    /// What was sent of each column, in the order of the table's columns.
+    pub fn cells(&self) -> &'a [Cell]
+        ensures { result.now ≡ self.now.cells.now }
+    {
+        self.cells
+    }
+
+    /// The values as one keeps them, in the order of the table's columns: null, or a text. A long one that is unchanged and wasn't sent
+    /// is as it was before. `AllocError` where memory for them is refused.
+    pub fn values(
+        &self,
+        alloc: Global,
+        before: &[Option<String>],
+    ) -> Result<Vec<Option<String>>, AllocError>
+        ensures { IfOk result (λ values. (length values.items ≡ length self.now.cells.now)
+            × ((i : ℕ) → i < length self.now.cells.now →
+            option_map string_bytes (get_or values.items i None)
+            ≡ kept_of (get_or self.now.cells.now i cells.Null)
+            (option_and_then (option_map string_bytes) (slice_get before.now i)))) }
+    {
+        let mut values = Vec::new(alloc);
+        for (at, cell) in self.cells.iter().enumerate() {
+            values.push(value_of(alloc, cell, before, at)?)?;
+        }
+        Ok(values)
+    }
+
     /// Whether it is of the table of this schema and name.
     pub fn is_of(&self, schema: &str, name: &str) -> bool
         ensures { result
@@ -90,6 +125,33 @@ impl<'a> Row<'a> {
             return None;
         }
         self.text(column)
+    }
+}
+
+/// The value of a cell that stands there, and had its value before there.
+fn value_of(
+    alloc: Global,
+    cell: &Cell,
+    before: &[Option<String>],
+    at: usize,
+) -> Result<Option<String>, AllocError>
+    ensures { IfOk result (λ value. option_map string_bytes value
+        ≡ kept_of cell.now (option_and_then (option_map string_bytes) (slice_get before.now at))) }
+{
+    match cell {
+        Cell::Null => Ok(None),
+        Cell::Text(text) => Ok(Some(String::from_str(alloc, text.as_str())?)),
+        Cell::Unchanged => copy_of(before.get(at)),
+    }
+}
+
+fn copy_of(value: Option<&Option<String>>) -> Result<Option<String>, AllocError>
+    ensures { IfOk result (λ copy. option_map string_bytes copy
+        ≡ option_and_then (option_map string_bytes) (option_copied value.entry)) }
+{
+    match value {
+        Some(Some(text)) => Ok(Some(text.clone()?)),
+        Some(None) | None => Ok(None),
     }
 }
 

@@ -6,7 +6,7 @@ use crate::fault::FollowFault;
 use crate::row::Row;
 use crate::told_tables::ToldTables;
 use client::{Applied, ClientFault, PublishedChange};
-use pgoutput::{Cell, Logical, Message, OldTuple, Update};
+use pgoutput::{Cell, Logical, Message, OldTuple, Relation, Update};
 
 /// A transaction, or a message outside of all transactions, which is one by itself.
 #[derive(Clone, Copy)]
@@ -18,13 +18,16 @@ pub struct Transaction<'a> {
 /// What a transaction does.
 #[derive(Clone, Copy)]
 pub enum Change<'a> {
+    /// The new row, of which every value is sent.
     Insert(Row<'a>),
-    /// The new row, and what is told of the old one where its key has changed, or where the table's identity is full.
+    /// What is told of the old row, which is its key where that has changed and all of it where the table's identity is full; and the new
+    /// row, of which a long value that is unchanged isn't sent.
     Update(Option<Row<'a>>, Row<'a>),
-    /// What is told of the old row.
+    /// What is told of the old row: its key, or all of it. What isn't told is null.
     Delete(Row<'a>),
-    /// The OIDs of the tables that are emptied.
+    /// The OIDs of the tables that are emptied: `Transaction::table` tells their names.
     Truncate(&'a [u32]),
+    /// A message that a session put into the log, where the options ask for messages.
     Message(&'a Message),
 }
 
@@ -50,6 +53,7 @@ impl<'a> Transaction<'a> {
         self.applied.time
     }
 
+    /// The number of the transaction, which a server may use again (PostgreSQL 15, 55.9, Begin).
     pub fn xid(&self) -> u32
         ensures { result ≡ self.now.applied.now.xid }
     {
@@ -83,6 +87,11 @@ impl<'a> Transaction<'a> {
         }
     }
 
+    /// What was told of the table of this OID; None where nothing was.
+    pub fn table(&self, oid: u32) -> Option<&'a Relation> {
+        self.tables.get(oid)
+    }
+
     fn update(&self, update: &'a Update) -> Result<Change<'a>, FollowFault> {
         let new = self.row(update.oid, update.new.as_slice())?;
         match &update.old {
@@ -100,7 +109,7 @@ impl<'a> Transaction<'a> {
     fn row(&self, oid: u32, cells: &'a [Cell]) -> Result<Row<'a>, FollowFault>
         ensures { IfOk result (λ row. row.cells.now ≡ cells.now) }
     {
-        match self.tables.get(oid) {
+        match self.table(oid) {
             Some(relation) => Ok(Row { relation, cells }),
             None => Err(FollowFault::Client(ClientFault::UnknownRelation)),
         }

@@ -1,4 +1,0 @@
-use Rattle.example_uses.proofs.own_log.work_on_log.Given as goal
-
-abbrev pub ghosts-over_log : goal.ghosts-over_log
-ghosts-over_log g a = record { book = a.opened.history.seen.book }

@@ -1,4 +1,0 @@
-use Rattle.example_uses.proofs.without_memory.places.work.Given as goal
-
-abbrev pub ghosts-over_table : goal.ghosts-over_table
-ghosts-over_table a = record { table = a.opened.first.table_id }
