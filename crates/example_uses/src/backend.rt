@@ -26,6 +26,12 @@ impl Backend for EmptyBackend {
         Err(BackendFault::NoSlotPlace)
     }
 
+    fn create_with_snapshot(&mut self, _slot: &str) -> Result<u64, BackendFault> {
+        Err(BackendFault::NoCopies)
+    }
+
+    fn release_snapshot(&mut self) {}
+
     fn drop_slot(&mut self, _slot: &str) -> Result<(), BackendFault> {
         Err(BackendFault::SlotMissing)
     }
