@@ -34,8 +34,8 @@ def answer(columns, rows, tag):
     return b"".join(frames) + completed(tag)
 
 
-def completed(tag):
-    return frame(b"C", tag.encode() + b"\0") + frame(b"Z", b"I")
+def completed(tag, state=b"I"):
+    return frame(b"C", tag.encode() + b"\0") + frame(b"Z", state)
 
 
 ANSWERED = [
@@ -103,7 +103,7 @@ def said_to(client, text):
 
 
 def questions_are_answered_where_they_may_be(pubd, subcat):
-    """And the beginning of an initial copy is refused."""
+    """And the slot of an initial copy is refused."""
     wrong = []
     with Server(pubd, 1, more=ON) as server:
         client = Connection(server.port)
@@ -112,16 +112,22 @@ def questions_are_answered_where_they_may_be(pubd, subcat):
             got = said_to(client, text)
             wrong += [f"{text!r} is answered by {got}, and not by {due}"] * (got != due)
         wrong += wrong_texts(client, [("SHOW work_mem", NO_SUCH, 'unrecognized configuration parameter "work_mem"')])
-        for _ in range(2):
-            wrong += wrong_texts(client, [(COPY, UNSUPPORTED, "initial copies are not served: use WITH (copy_data = false)")])
         copy_slot = "pg_16394_sync_16386_7000000000000000001"
+        got = said_to(client, COPY)
+        wrong += [f"{COPY!r} is answered by {got}"] * (got != completed("BEGIN", b"T"))
+        snapshot = f"CREATE_REPLICATION_SLOT \"{copy_slot}\" LOGICAL pgoutput (SNAPSHOT 'use')"
+        wrong += wrong_texts(client, [(snapshot, UNSUPPORTED, "initial copies are not served: use WITH (copy_data = false)")])
+        wrong += wrong_texts(client, [(MODE, "25P02", "current transaction is aborted, commands ignored until its end")])
+        got = said_to(client, "COMMIT")
+        wrong += [f"COMMIT is answered by {got}"] * (got != completed("ROLLBACK"))
         wrong += wrong_texts(client, [(f"DROP_REPLICATION_SLOT {copy_slot}", "42704", f'replication slot "{copy_slot}" does not exist')])
         wrong += ["a slot isn't dropped"] * (code_for(client, "DROP_REPLICATION_SLOT s") != "42704")
         client.create("s")
         got = said_to(client, BARE_DROP)
         wrong += [f"{BARE_DROP!r} is answered by {got}"] * (got != completed("DROP_REPLICATION_SLOT"))
         client.close()
-        told = ["unrecognized configuration parameter", "initial copies are not served: use WITH (copy_data = false)", "DROP_REPLICATION_SLOT of slot s: L1: the slot does not exist"]
+        refused = f"CREATE_REPLICATION_SLOT of slot {copy_slot}: L9: tables are not copied"
+        told = ["unrecognized configuration parameter", refused, "current transaction is aborted, commands ignored until its end", "DROP_REPLICATION_SLOT of slot s: L1: the slot does not exist"]
         return wrong + server.end(ended=[f"pubd: connection 1: {each}" for each in told])
 
 

@@ -5,6 +5,8 @@ from case import Case, Wrong, values
 from meanings import position
 
 ENDS, ASKED = "-- ", "asked "
+# The file whose connections answer questions too.
+QUESTIONS = "questions"
 STOPPED = "stopped"
 READY = "5a 00000005 49"
 # AuthenticationOk, the version 15.0, the encoding UTF8, and the key of the first connection.
@@ -12,6 +14,14 @@ GREETING = """52 00000008 00000000
     53 00000018 7365727665725f76657273696f6e00 31352e3000
     53 00000019 636c69656e745f656e636f64696e6700 5554463800
     4b 0000000c 00000001 00000000"""
+
+# Who answers questions tells how it keeps times, too.
+ANSWERING = """52 00000008 00000000
+    53 00000018 7365727665725f76657273696f6e00 31352e3000
+    53 00000019 636c69656e745f656e636f64696e6700 5554463800
+    53 00000019 696e74656765725f6461746574696d657300 6f6e00
+    4b 0000000c 00000001 00000000"""
+READY_IN_BLOCK, READY_IN_FAILED_BLOCK = "5a 00000005 54", "5a 00000005 45"
 
 
 def framed(kind, body):
@@ -32,12 +42,20 @@ def heard(line):
 
 
 def said(line):
-    """The bytes of a line of the server: `greeting`, `error CODE TEXT`, `ready`, or digits."""
+    """The bytes of a line of the server: `greeting`, `answering`, `error CODE TEXT`, `complete TAG`, `ready`, `ready T`, `ready E`, or digits."""
+    if line.startswith("complete "):
+        return framed(b"C", string(line.removeprefix("complete ")))
     if line.startswith("error "):
         _, code, text = line.split(" ", 2)
         fields = b"".join(kind + string(value) for kind, value in ((b"S", "ERROR"), (b"V", "ERROR"), (b"C", code), (b"M", text)))
         return framed(b"E", fields + b"\0")
-    digits = {"greeting": GREETING + READY, "ready": READY}.get(line, line)
+    digits = {
+        "greeting": GREETING + READY,
+        "answering": ANSWERING + READY,
+        "ready": READY,
+        "ready T": READY_IN_BLOCK,
+        "ready E": READY_IN_FAILED_BLOCK,
+    }.get(line, line)
     return bytes.fromhex("".join(digits.split()))
 
 
@@ -46,9 +64,9 @@ def expanded(line):
     return re.sub(r"a\{(\d+)\}", lambda found: "a" * int(found[1]), line.replace("\\0", "\0"), count=1)
 
 
-def talk(events):
+def talk(events, call="talk"):
     """The line that gives a server what a client sends, and has its streams end where they stop."""
-    return "talk " + "".join(f"{event if event == '.' else event.hex()}," for event in events)
+    return f"{call} " + "".join(f"{event if event == '.' else event.hex()}," for event in events)
 
 
 def asked_of(call):
@@ -60,6 +78,8 @@ def asked_of(call):
         return " ".join(["start", slot, position(place), *names, *["messages"] * options.messages])
     if kind.word == "flushed":
         return f"flushed {position(given[0])}{' and asks' * given[1]}"
+    if kind.word == "release_snapshot":
+        return kind.word
     return f"{kind.word} {given[0]}"
 
 
@@ -116,5 +136,6 @@ def alike(whole, pieces):
 def read(file):
     for number, events, told, bytes_said in cases(file.read_text().split("\n")):
         due = "\n".join([*told, bytes_said.hex()])
-        asked = [talk(events), talk(come_by_one(events))]
+        call = file.stem if file.stem == QUESTIONS else "talk"
+        asked = [talk(events, call), talk(come_by_one(events), call)]
         yield Case(number, asked, alike, lambda came, due=due: came == due)

@@ -9,6 +9,7 @@ pub mod Quotes
 pub mod Lists
 pub mod Slots
 pub mod Once
+pub mod Blocks
 pub mod Rows
 pub mod Arrays
 pub mod Tails

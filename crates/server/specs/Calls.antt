@@ -9,6 +9,8 @@ pub data Call : Type 0 where
   End : (end : ℕ) → Call
   System : (systemid : List ℕ) → Call
   CreateSlot : (slot : List ℕ) → (answer : Result ℕ BackendFault) → Call
+  CreateSnapshot : (slot : List ℕ) → (answer : Result ℕ BackendFault) → Call
+  ReleaseSnapshot : Call
   DropSlot : (slot : List ℕ) → (answer : Result (Unit {0}) BackendFault) → Call
   StartStream : (slot : List ℕ) → (position : ℕ) → (options : StreamOptions) → (answer : Result (Unit {0}) BackendFault) → Call
   Publications : (names : List (List ℕ)) → (answer : Result (List (List ℕ)) BackendFault) → Call

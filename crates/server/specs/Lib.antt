@@ -1,6 +1,7 @@
 pub mod Calls
 pub mod Opening
 pub mod Conversation
+pub mod Blocks
 pub mod Turns
 pub mod Segment
 pub mod Questions

@@ -12,7 +12,7 @@ use Rattle.server.specs.declared.backend_fault.BackendFault.{BackendFault}
 use Rattle.server.specs.declared.backend_fault.StartAhead.{StartAhead}
 use Rattle.server.specs.declared.backend_fault.BackendFault.TheVariants as backends
 use Rattle.server.specs.declared.refusal.Refusal.{Refusal}
-use Rattle.server.specs.declared.refusal.Refusal.TheVariants.{Violation, Version, NoReplication, InitialCopy, NoTransaction, UnknownParameter, ExtendedQuery, FunctionCall, Command, Question, Asked}
+use Rattle.server.specs.declared.refusal.Refusal.TheVariants.{Violation, Version, NoReplication, InitialCopy, NoTransaction, NotFirst, ExportInBlock, StartInBlock, BlockFailed, UnknownParameter, ExtendedQuery, FunctionCall, Command, Question, Asked}
 
 abbrev pub command_code : CmdFault → List ℕ
 command_code commands.Syntax = codes "42601"
@@ -60,6 +60,7 @@ backend_code (backends.StartAhead ahead) = codes "55000"
 backend_code backends.SlotLost = codes "55000"
 backend_code backends.NotOwner = codes "42501"
 backend_code backends.NotGranted = codes "42501"
+backend_code backends.NoCopies = codes "0A000"
 backend_code backends.Memory = codes "53200"
 
 abbrev pub backend_text : BackendFault → List ℕ
@@ -74,6 +75,7 @@ backend_text (backends.StartAhead ahead) = codes "start is ahead of what the slo
 backend_text backends.SlotLost = codes "can no longer get changes from replication slot"
 backend_text backends.NotOwner = codes "must be owner of replication slot"
 backend_text backends.NotGranted = codes "permission denied for publication"
+backend_text backends.NoCopies = codes "initial copies are not served: use WITH (copy_data = false)"
 backend_text backends.Memory = codes "out of memory"
 
 abbrev pub refusal_code : Refusal → List ℕ
@@ -82,6 +84,10 @@ refusal_code Version = codes "0A000"
 refusal_code NoReplication = codes "0A000"
 refusal_code InitialCopy = codes "0A000"
 refusal_code NoTransaction = codes "XX000"
+refusal_code NotFirst = codes "XX000"
+refusal_code ExportInBlock = codes "XX000"
+refusal_code StartInBlock = codes "25001"
+refusal_code BlockFailed = codes "25P02"
 refusal_code UnknownParameter = codes "42704"
 refusal_code ExtendedQuery = codes "08P01"
 refusal_code FunctionCall = codes "08P01"
@@ -95,6 +101,10 @@ refusal_text Version = codes "unsupported protocol version"
 refusal_text NoReplication = codes "only replication=database is served"
 refusal_text InitialCopy = codes "initial copies are not served: use WITH (copy_data = false)"
 refusal_text NoTransaction = codes "CREATE_REPLICATION_SLOT ... (SNAPSHOT 'use') must be called inside a transaction"
+refusal_text NotFirst = codes "CREATE_REPLICATION_SLOT ... (SNAPSHOT 'use') must be called before any query"
+refusal_text ExportInBlock = codes "a slot's snapshot must not be exported inside a transaction"
+refusal_text StartInBlock = codes "START_REPLICATION cannot run inside a transaction block"
+refusal_text BlockFailed = codes "current transaction is aborted, commands ignored until its end"
 refusal_text UnknownParameter = codes "unrecognized configuration parameter"
 refusal_text ExtendedQuery = codes "extended query protocol not supported: only simple queries are served"
 refusal_text FunctionCall = codes "function calls not supported: only simple queries are served"

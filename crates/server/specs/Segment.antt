@@ -11,7 +11,7 @@ use Rattle.server.specs.declared.connection.Phase.{Phase}
 use Rattle.server.specs.declared.connection.Phase.TheVariants as phases
 use Rattle.server.specs.declared.connection.Connection.{Connection}
 use Rattle.server.specs.declared.stage.Stage.{Stage}
-use Rattle.server.specs.declared.stage.Stage.TheVariants.{Fresh, Idle, Skipping, Streaming, Stopping, Closed}
+use Rattle.server.specs.declared.stage.Stage.TheVariants.{Fresh, Idle, InBlock, Skipping, Streaming, Stopping, Closed}
 use Rattle.server.specs.declared.stage.Turned.{Turned}
 use Rattle.pqformat.specs.Putting.{Extends}
 use Rattle.std.specs.declared.alloc.AllocError.{AllocError}
@@ -74,6 +74,7 @@ abbrev pub IfStopping : Stage → Type 0 → Type 0 → Type 0
 IfStopping (Stopping database) Then Else = Then
 IfStopping Fresh Then Else = Else
 IfStopping (Idle database) Then Else = Else
+IfStopping (InBlock block) Then Else = Else
 IfStopping (Skipping database) Then Else = Else
 IfStopping (Streaming database) Then Else = Else
 IfStopping Closed Then Else = Else
@@ -92,6 +93,7 @@ UnlessMemory (Err faults.Memory) Fact = Unit {0}
 abbrev pub phase_of : Stage → Phase
 phase_of Fresh = phases.Startup
 phase_of (Idle database) = phases.Idle
+phase_of (InBlock block) = phases.Idle
 phase_of (Skipping database) = phases.Idle
 phase_of (Streaming database) = phases.Streaming
 phase_of (Stopping database) = phases.Stopping
@@ -135,6 +137,7 @@ has_query (Some front) = (front.0 == QUERY) && is_there (number_at w32 front.1)
 -- what is answered next is a query
 abbrev pub has_command : Stage → List ℕ → Bool
 has_command (Idle database) pending = has_query (byte_at pending)
+has_command (InBlock block) pending = has_query (byte_at pending)
 has_command Fresh pending = false
 has_command (Skipping database) pending = false
 has_command (Streaming database) pending = false

@@ -13,7 +13,7 @@ use replcmd::StreamOptions;
 /// The backend of a connection. `told` is what one call with its answer says of a backend before and after it; a backend that
 /// tells nothing says `Unit`, one that keeps a record of its calls says that it grew by this one.
 pub trait Backend {
-    ghost use Rattle.server.specs.Calls.{Call, End, System, CreateSlot, DropSlot, StartStream, Flushed, Publications, Tables, Columns};
+    ghost use Rattle.server.specs.Calls.{Call, End, System, CreateSlot, DropSlot, StartStream, CreateSnapshot, ReleaseSnapshot, Flushed, Publications, Tables, Columns};
 
     ghost told: { Self → Call → Self → Type 0 };
 
@@ -29,6 +29,16 @@ pub trait Backend {
     /// Makes a slot, and answers its consistent point; or why it makes none, such as `SlotExists` (L3) or `NoSlotPlace` (L4).
     fn create(&mut self, slot: &str) -> Result<u64, BackendFault>
         ensures { told self.old (CreateSlot slot.now result) self.new };
+
+    /// Makes a slot, and the snapshot of all that committed below its consistent point, in one step, and answers that point; or why it
+    /// makes none, as `create` does, or `NoCopies` (L9) where tables are not copied. The snapshot is held until
+    /// `release_snapshot`, and no longer than the backend itself.
+    fn create_with_snapshot(&mut self, slot: &str) -> Result<u64, BackendFault>
+        ensures { told self.old (CreateSnapshot slot.now result) self.new };
+
+    /// Lets the snapshot go that is held.
+    fn release_snapshot(&mut self)
+        ensures { told self.old ReleaseSnapshot self.new };
 
     /// Drops a slot; or answers why it doesn't, such as `SlotMissing` (L1) or `SlotInUse` (L2).
     fn drop_slot(&mut self, slot: &str) -> Result<(), BackendFault>

@@ -21,6 +21,8 @@ pub enum BackendFault {
     NotOwner,
     /// The user may not follow a publication.
     NotGranted,
+    /// Tables are not copied from here.
+    NoCopies,
     Memory,
 }
 
@@ -45,6 +47,7 @@ impl fmt::Display for BackendFault {
             BackendFault::SlotLost => "L8: the slot held more of the log than it may",
             BackendFault::NotOwner => "A3: the slot is another user's",
             BackendFault::NotGranted => "A4: the user may not follow a publication",
+            BackendFault::NoCopies => "L9: tables are not copied",
             BackendFault::Memory => "out of memory",
         })
     }

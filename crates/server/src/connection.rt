@@ -77,7 +77,7 @@ impl Connection {
     {
         match &self.stage {
             Stage::Fresh => Phase::Startup,
-            Stage::Idle(_) | Stage::Skipping(_) => Phase::Idle,
+            Stage::Idle(_) | Stage::InBlock(_) | Stage::Skipping(_) => Phase::Idle,
             Stage::Streaming(_) => Phase::Streaming,
             Stage::Stopping(_) => Phase::Stopping,
             Stage::Closed => Phase::Closed,
@@ -89,7 +89,7 @@ impl Connection {
         ensures { result ≡ has_command self.now.stage self.now.pending.items }
     {
         match &self.stage {
-            Stage::Idle(_) => has_query(self.pending.as_slice()),
+            Stage::Idle(_) | Stage::InBlock(_) => has_query(self.pending.as_slice()),
             Stage::Fresh
             | Stage::Skipping(_)
             | Stage::Streaming(_)

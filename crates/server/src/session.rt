@@ -10,6 +10,8 @@ ghost use Rattle.server.specs.Turns.{Hears, HearsExtended};
 ghost use Rattle.server.specs.declared.stage.Stage.TheVariants.{Idle};
 
 use crate::backend::Backend;
+use crate::block::begins_block;
+use crate::block_query::begin;
 use crate::database::Database;
 use crate::extended::{Extended, is_extended, read_extended};
 use crate::refusal::Refusal;
@@ -35,6 +37,9 @@ fn answer_query<D: Backend>(
         next)
         backend.old out.old.items backend.new out.new.items }
 {
+    if begins_block(dialect, query) {
+        return begin(alloc, database, backend, out);
+    }
     if reply_in(alloc, dialect, &database, query, backend, out)? {
         Ok(Stage::Streaming(database))
     } else {

@@ -5,6 +5,7 @@ ghost use Rattle.pqformat.specs.Putting.{Extends};
 ghost use Rattle.server.specs.Said.{error_of_refusal};
 ghost use Rattle.server.specs.Turns.{refusal_of};
 
+use crate::block::Block;
 use crate::database::Database;
 use crate::refusal::Refusal;
 use crate::say::say_refused;
@@ -19,6 +20,8 @@ pub enum Stage {
     Fresh,
     /// A query is.
     Idle(Database),
+    /// A query is, in a transaction block.
+    InBlock(Block),
     /// An extended query was refused, and its Sync is waited for.
     Skipping(Database),
     /// A stream has begun.

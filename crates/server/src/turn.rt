@@ -12,6 +12,7 @@ ghost use Rattle.server.specs.declared.stage.Stage.TheVariants.{Fresh};
 
 use crate::backend::Backend;
 use crate::database::MOST_DATABASE_BYTES;
+use crate::in_block::turn_block;
 use crate::opening::open;
 use crate::service::Service;
 use crate::session::turn_session;
@@ -118,6 +119,7 @@ pub(crate) fn turn<D: Backend>(
     match stage {
         Stage::Fresh => turn_startup(alloc, service, pending, out),
         Stage::Idle(database) => turn_session(alloc, service, database, pending, backend, out),
+        Stage::InBlock(block) => turn_block(alloc, block, pending, backend, out),
         Stage::Skipping(database) => turn_skipping(alloc, database, pending, out),
         Stage::Streaming(database) => turn_stream(alloc, database, pending, backend, out),
         Stage::Stopping(database) => Ok(Turned {

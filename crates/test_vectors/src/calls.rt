@@ -18,13 +18,15 @@ use crate::texts::{
     answer_position,
 };
 use anyhow::{Result, bail};
+use server::Dialect;
 use std::alloc::Global;
 
 pub fn answer_call(alloc: Global, call: &str, given: &str, answer: &mut String) -> Result<()> {
     match call {
         "status" => answer_status(alloc, given, answer),
         "applied" => answer_applied(alloc, given, answer),
-        "talk" => answer_talk(alloc, given, answer),
+        "talk" => answer_talk(alloc, Dialect::Commands, given, answer),
+        "questions" => answer_talk(alloc, Dialect::Questions, given, answer),
         "published" => answer_published(alloc, given, answer),
         "explained" => answer_explained(alloc, given, answer),
         "filter" => answer_filter(alloc, given, answer),

@@ -68,6 +68,18 @@ impl Backend for ScriptedBackend {
         Ok(END)
     }
 
+    fn create_with_snapshot(&mut self, slot: &str) -> Result<u64, BackendFault> {
+        let noted = write!(self.asked, "(create_with_snapshot, {slot:?}), ");
+        self.note(noted);
+        answer_of(slot)?;
+        Ok(END)
+    }
+
+    fn release_snapshot(&mut self) {
+        let noted = write!(self.asked, "(release_snapshot, 0), ");
+        self.note(noted);
+    }
+
     fn drop_slot(&mut self, slot: &str) -> Result<(), BackendFault> {
         let noted = write!(self.asked, "(drop, {slot:?}), ");
         self.note(noted);

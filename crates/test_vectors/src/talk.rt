@@ -4,7 +4,7 @@ use crate::answer::bytes_of;
 use crate::scripted_backend::ScriptedBackend;
 use anyhow::{Context, Result};
 use bytes::BytesMut;
-use server::{ConnFault, Connection, Phase};
+use server::{ConnFault, Connection, Dialect, Phase, Service};
 use std::alloc::{AllocError, Global};
 
 /// A connection, its backend, and what was said to its client.
@@ -15,12 +15,14 @@ struct Talk {
     said: BytesMut,
 }
 
-/// Pieces of what a client sends to the first connection of a server, in digits, a comma after each; a dot among them ends the
-/// stream, if one stops. Adds what each was answered and the phase after it, then what the backend was asked and what was said.
-pub fn answer_talk(alloc: Global, given: &str, answer: &mut String) -> Result<()> {
+/// Pieces of what a client sends to the first connection of a server of this dialect, in digits, a comma after each; a dot among
+/// them ends the stream, if one stops. Adds what each was answered and the phase after it, then what the backend was asked and
+/// what was said.
+pub fn answer_talk(alloc: Global, dialect: Dialect, given: &str, answer: &mut String) -> Result<()> {
+    let number = 1;
     let mut talk = Talk {
         backend: ScriptedBackend::new(alloc),
-        connection: Connection::new(alloc, 1),
+        connection: Connection::served(alloc, Service { number, dialect }),
         said: BytesMut::new(alloc),
     };
     talk.add_all(alloc, given, answer)

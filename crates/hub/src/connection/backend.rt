@@ -80,6 +80,15 @@ impl<'h, L: LogName + SlotName, R: Wait + Clock, G: ServerObserver> Backend
         created
     }
 
+    fn create_with_snapshot(&mut self, slot: &str) -> Result<u64, BackendFault> {
+        let refused = BackendFault::NoCopies;
+        let what = RefusedCommand::OfSlot("CREATE_REPLICATION_SLOT", slot, refused);
+        self.observer.refused(self.number, &what);
+        Err(refused)
+    }
+
+    fn release_snapshot(&mut self) {}
+
     fn drop_slot(&mut self, slot: &str) -> Result<(), BackendFault> {
         let dropped = self
             .server_state

@@ -8,6 +8,9 @@ returns-in-Fresh g c = rw c.in-Fresh.is (quiet_turned g.D.Backend.told c.args.se
 pub returns-in-Idle : goal.returns-in-Idle
 returns-in-Idle g c = rw c.in-Idle.is c.turn_session.ensures
 
+pub returns-in-InBlock : goal.returns-in-InBlock
+returns-in-InBlock g c = rw c.in-InBlock.is (c.turn_block.ensures c.args.service)
+
 pub returns-in-Skipping : goal.returns-in-Skipping
 returns-in-Skipping g c = rw c.in-Skipping.is (quiet_turned g.D.Backend.told c.args.service (Skipping c.in-Skipping.database) c.args.pending.now c.args.backend.now c.args.out.now.items c.turn_skipping.new.out.items c.turn_skipping.result (c.turn_skipping.ensures.turned c.args.service) c.turn_skipping.ensures.kept)
 
