@@ -1,4 +1,5 @@
 pub mod Changing
+pub mod Copies
 pub mod Ending
 pub mod LogTimes
 pub mod Notices

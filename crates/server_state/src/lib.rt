@@ -18,6 +18,7 @@ mod streams;
 
 pub use arrivals::arriving::Place;
 pub use fault::{EndFault, HubFault, ServeFault, SteerFault};
+pub use kept::keeping::SlotSnapshot;
 pub use kept::pool::ReaderSeat;
 pub use opening::configured::ConfigurationFault;
 pub use opening::hub_builder::HubBuilder;

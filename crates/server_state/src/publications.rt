@@ -1,5 +1,6 @@
 //! What subscribers ask of the publications, and why it is refused.
 
+pub(crate) mod copied_row;
 pub(crate) mod published;
 pub(crate) mod published_columns;
 pub(crate) mod refusals;

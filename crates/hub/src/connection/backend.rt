@@ -1,5 +1,6 @@
 //! The backend of a connection over the hub.
 
+use crate::connection::session_copies::SessionCopies;
 use crate::stream::granting::{begin_stream, end_stream};
 use crate::stream::new_stream::NewStream;
 use crate::stream::starting::HubStart;
@@ -29,6 +30,7 @@ pub(crate) struct HubBackend<'h, L: LogName + SlotName, R: Wait, G: ServerObserv
     pub user: &'h Option<Text>,
     /// The latch of the stream that runs.
     pub latch: Option<usize>,
+    pub copies: &'h mut SessionCopies,
 }
 
 impl<'h, L: LogName + SlotName, R: Wait, G: ServerObserver> HubBackend<'h, L, R, G> {
@@ -81,13 +83,27 @@ impl<'h, L: LogName + SlotName, R: Wait + Clock, G: ServerObserver> Backend
     }
 
     fn create_with_snapshot(&mut self, slot: &str) -> Result<u64, BackendFault> {
-        let refused = BackendFault::NoCopies;
-        let what = RefusedCommand::OfSlot("CREATE_REPLICATION_SLOT", slot, refused);
-        self.observer.refused(self.number, &what);
-        Err(refused)
+        let user = name_of(self.user);
+        match self
+            .server_state
+            .create_slot_with_snapshot(self.rt, slot, user)
+        {
+            Ok(made) => {
+                self.copies.release(self.rt, self.server_state);
+                self.copies.snapshot = Some(made.snapshot);
+                Ok(made.consistent_point)
+            }
+            Err(fault) => {
+                let what = RefusedCommand::OfSlot("CREATE_REPLICATION_SLOT", slot, fault);
+                self.observer.refused(self.number, &what);
+                Err(fault)
+            }
+        }
     }
 
-    fn release_snapshot(&mut self) {}
+    fn release_snapshot(&mut self) {
+        self.copies.release(self.rt, self.server_state);
+    }
 
     fn drop_slot(&mut self, slot: &str) -> Result<(), BackendFault> {
         let dropped = self

@@ -4,6 +4,7 @@ ghost use Rattle.std.specs.Prelude.{◌≡◌};
 ghost use Rattle.authentication.specs.Guarding.{guarded_phase};
 
 use crate::connection::backend::HubBackend;
+use crate::connection::session_copies::SessionCopies;
 use crate::stream::new_stream::NewStream;
 use authentication::GuardedConnection;
 use bytes::BytesMut;
@@ -34,6 +35,7 @@ struct ReadState {
     patience: Patience,
     /// Who has proved its password, where one was asked.
     user: Option<Text>,
+    copies: SessionCopies,
 }
 
 /// What a reading thread is passed.
@@ -80,6 +82,7 @@ fn read_from<L: LogName + SlotName, R: Wait + Clock, G: ServerObserver>(
             read.server_state.silence(),
         ),
         user: None,
+        copies: SessionCopies::none(),
     };
     let mut end = ConnectionEnd::Client;
     for _ in read.rt.forever() {
@@ -91,6 +94,7 @@ fn read_from<L: LogName + SlotName, R: Wait + Clock, G: ServerObserver>(
     if !state.connection.is_let_in() {
         read.server_state.leave_strangers();
     }
+    state.copies.release(read.rt, read.server_state);
     read.mailbox.pass(read.rt, Phase::Closed);
     tell_work(read, state.latch);
     if end == ConnectionEnd::Client && read.server_state.is_ending() {
@@ -188,6 +192,7 @@ fn answered<L: LogName + SlotName, R: Wait + Clock, G: ServerObserver>(
         socket: read.socket,
         user: &state.user,
         latch: state.latch,
+        copies: &mut state.copies,
     };
     let Ok(more) = state.connection.answer(&mut backend, said) else {
         return None;
