@@ -26,6 +26,8 @@ pub use opening::new_publication::{NewMember, NewPublication};
 pub use opening::new_table::NewTable;
 pub use opening::settings::HubSettings;
 pub use opening::system::SystemName;
+pub use publications::copying::TableCopy;
+pub use publications::described::{attributes_of, column_lists, found_table, row_filters};
 pub use publications::published::{known_names, tables_of};
 pub use publications::published_columns::columns_of;
 pub use publications::refusals::{of_publications, of_slot};

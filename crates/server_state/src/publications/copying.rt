@@ -1,0 +1,179 @@
+//! The copy of a table out of a snapshot (PostgreSQL 15, 31.7): its rows that pass a filter, with the columns that are asked for.
+
+use crate::publications::copied_row::copied_row;
+use crate::publications::described::table_by;
+use crate::publications::row_filters::publications_in;
+use crate::server_state::ServerState;
+use pqformat::{Items, Text};
+use publication::{Publications, Selection};
+use server::{BackendFault, TableName};
+use shared_log::LogName;
+use slots::SlotName;
+use std::alloc::{AllocError, Global};
+use std::sync::{MutexGuard, Wait};
+use tables::{Row, Table};
+use txlog::Piece;
+
+/// At how many places of the rows it is looked while the publisher is held.
+const MOST_PLACES: usize = 256;
+
+/// A copy that runs.
+#[derive(Drop)]
+pub struct TableCopy {
+    snapshot: u64,
+    oid: u32,
+    /// What it hands over, as inserts.
+    copied: Selection,
+    /// Rows that were read and not handed over yet, the next one last.
+    waiting: Vec<Row>,
+    is_read: bool,
+}
+
+impl TableCopy {
+    /// The next of the waiting rows that is handed over.
+    fn next_waiting(&mut self, alloc: Global) -> Result<Option<Items<Option<Text>>>, AllocError> {
+        while let Some(row) = self.waiting.pop() {
+            if let Some(values) = copied_row(alloc, &self.copied, self.oid, row)? {
+                return Ok(Some(values));
+            }
+        }
+        Ok(None)
+    }
+}
+
+impl<L: LogName + SlotName> ServerState<L> {
+    /// Begins the copy of a table out of a snapshot: these columns of the rows that pass this filter. `UnknownTable`, `UnknownColumn`
+    /// where the columns aren't some of the table's in its order, `UnknownFilter`, or `Memory`.
+    pub fn open_copy<R: Wait>(
+        &self,
+        rt: &R,
+        snapshot: u64,
+        table: &TableName,
+        columns: &[Text],
+        filter: Option<&str>,
+    ) -> Result<TableCopy, BackendFault> {
+        let (oid, copied) = self.selection_of_copy(table, columns, filter)?;
+        let mut publisher = self.publisher.lock(rt);
+        let begun = publisher.scan_snapshot(snapshot, oid);
+        let _ = MutexGuard::unlock(publisher);
+        match begun {
+            Ok(()) => Ok(TableCopy {
+                snapshot,
+                oid,
+                copied,
+                waiting: Vec::new(self.alloc),
+                is_read: false,
+            }),
+            Err(_) => {
+                drop(copied);
+                Err(BackendFault::NoCopies)
+            }
+        }
+    }
+
+    fn selection_of_copy(
+        &self,
+        table: &TableName,
+        columns: &[Text],
+        filter: Option<&str>,
+    ) -> Result<(u32, Selection), BackendFault> {
+        let Some(table) = table_named(&self.publications, table) else {
+            return Err(BackendFault::UnknownTable);
+        };
+        let Ok(listed) = listed_columns(self.alloc, table, columns) else {
+            return Err(BackendFault::Memory);
+        };
+        let Some(listed) = listed else {
+            return Err(BackendFault::UnknownColumn);
+        };
+        let names = names_of_filter(self.alloc, filter)?;
+        match self
+            .publications
+            .copied(table.oid, listed.as_slice(), names.as_slice())
+        {
+            Ok(copied) => Ok((table.oid, copied)),
+            Err(_) => Err(BackendFault::Memory),
+        }
+    }
+
+    /// The next row of a copy; None at its end.
+    pub fn next_row<R: Wait>(
+        &self,
+        rt: &R,
+        copy: &mut TableCopy,
+    ) -> Result<Option<Items<Option<Text>>>, BackendFault> {
+        for _ in rt.forever() {
+            match copy.next_waiting(self.alloc) {
+                Ok(Some(values)) => return Ok(Some(values)),
+                Ok(None) if copy.is_read => return Ok(None),
+                Ok(None) => self.read_piece(rt, copy)?,
+                Err(_) => return Err(BackendFault::Memory),
+            }
+        }
+        Ok(None)
+    }
+
+    /// Reads on.
+    fn read_piece<R: Wait>(&self, rt: &R, copy: &mut TableCopy) -> Result<(), BackendFault> {
+        let mut publisher = self.publisher.lock(rt);
+        let read = publisher.read_snapshot(copy.snapshot, MOST_PLACES);
+        let _ = MutexGuard::unlock(publisher);
+        match read {
+            Ok(Piece { rows, is_last }) => {
+                copy.waiting = rows;
+                copy.waiting.reverse();
+                copy.is_read = is_last;
+                Ok(())
+            }
+            Err(_) => Err(BackendFault::Memory),
+        }
+    }
+}
+
+fn table_named<'p>(publications: &'p Publications, name: &TableName) -> Option<&'p Table> {
+    let (schema, name) = (name.schema.as_str(), name.name.as_str());
+    let mut tables = publications.tables().iter();
+    tables.find(|t| t.schema.as_str() == schema && t.name.as_str() == name)
+}
+
+/// The column list of these columns. None, unless they are some of the table's, in its order.
+fn listed_columns(
+    alloc: Global,
+    table: &Table,
+    columns: &[Text],
+) -> Result<Option<Vec<bool>>, AllocError> {
+    let mut listed = Vec::new(alloc);
+    let mut rest = columns;
+    for column in table.columns.as_slice() {
+        let next = after_named(rest, column.name.as_str());
+        listed.push(next.is_some())?;
+        rest = next.unwrap_or(rest);
+    }
+    if rest.is_empty() {
+        Ok(Some(listed))
+    } else {
+        Ok(None)
+    }
+}
+
+/// What follows the name at the front, if that is this one.
+fn after_named<'c>(names: &'c [Text], name: &str) -> Option<&'c [Text]> {
+    let (first, rest) = names.split_first()?;
+    if first.as_str() == name {
+        Some(rest)
+    } else {
+        None
+    }
+}
+
+/// The publications whose filters a COPY names; none where it names no filter.
+fn names_of_filter(alloc: Global, filter: Option<&str>) -> Result<Items<Text>, BackendFault> {
+    let Some(filter) = filter else {
+        return Ok(Items::new(Vec::new(alloc)));
+    };
+    match publications_in(alloc, filter) {
+        Ok(Some(names)) => Ok(names),
+        Ok(None) => Err(BackendFault::UnknownFilter),
+        Err(_) => Err(BackendFault::Memory),
+    }
+}
