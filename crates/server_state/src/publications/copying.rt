@@ -1,15 +1,17 @@
 //! The copy of a table out of a snapshot (PostgreSQL 15, 31.7): its rows that pass a filter, with the columns that are asked for.
 
 use crate::publications::copied_row::copied_row;
-use crate::publications::described::table_by;
+use crate::publications::described::is_named;
 use crate::publications::row_filters::publications_in;
 use crate::server_state::ServerState;
 use pqformat::{Items, Text};
 use publication::{Publications, Selection};
+use publication_config::Publication;
 use server::{BackendFault, TableName};
 use shared_log::LogName;
 use slots::SlotName;
 use std::alloc::{AllocError, Global};
+use std::slice;
 use std::sync::{MutexGuard, Wait};
 use tables::{Row, Table};
 use txlog::Piece;
@@ -43,16 +45,18 @@ impl TableCopy {
 
 impl<L: LogName + SlotName> ServerState<L> {
     /// Begins the copy of a table out of a snapshot: these columns of the rows that pass this filter. `UnknownTable`, `UnknownColumn`
-    /// where the columns aren't some of the table's in its order, `UnknownFilter`, or `Memory`.
+    /// where the columns aren't some of the table's in its order, `UnknownFilter`, `NotGranted` (A4) where the user may follow no
+    /// publication that has so much of the table, or `Memory`.
     pub fn open_copy<R: Wait>(
         &self,
         rt: &R,
         snapshot: u64,
+        user: Option<&str>,
         table: &TableName,
         columns: &[Text],
         filter: Option<&str>,
     ) -> Result<TableCopy, BackendFault> {
-        let (oid, copied) = self.selection_of_copy(table, columns, filter)?;
+        let (oid, copied) = self.selection_of_copy(rt, user, table, columns, filter)?;
         let mut publisher = self.publisher.lock(rt);
         let begun = publisher.scan_snapshot(snapshot, oid);
         let _ = MutexGuard::unlock(publisher);
@@ -71,8 +75,10 @@ impl<L: LogName + SlotName> ServerState<L> {
         }
     }
 
-    fn selection_of_copy(
+    fn selection_of_copy<R: Wait>(
         &self,
+        rt: &R,
+        user: Option<&str>,
         table: &TableName,
         columns: &[Text],
         filter: Option<&str>,
@@ -87,6 +93,9 @@ impl<L: LogName + SlotName> ServerState<L> {
             return Err(BackendFault::UnknownColumn);
         };
         let names = names_of_filter(self.alloc, filter)?;
+        if !self.may_copy(rt, user, table.oid, listed.as_slice(), names.as_slice()) {
+            return Err(BackendFault::NotGranted);
+        }
         match self
             .publications
             .copied(table.oid, listed.as_slice(), names.as_slice())
@@ -94,6 +103,29 @@ impl<L: LogName + SlotName> ServerState<L> {
             Ok(copied) => Ok((table.oid, copied)),
             Err(_) => Err(BackendFault::Memory),
         }
+    }
+
+    /// Whether a user may copy these columns by the filters of these publications: it may follow those, or, where there is no filter,
+    /// one that has all rows.
+    fn may_copy<R: Wait>(
+        &self,
+        rt: &R,
+        user: Option<&str>,
+        oid: u32,
+        listed: &[bool],
+        names: &[Text],
+    ) -> bool {
+        if user.is_none() {
+            return true;
+        }
+        let mut publications = self.publications.publications().iter();
+        if names.is_empty() {
+            return publications.any(|p| {
+                has_whole(p, oid, listed) && self.may_follow(rt, user, slice::from_ref(&p.name))
+            });
+        }
+        self.may_follow(rt, user, names)
+            && publications.all(|p| !is_named(p, names) || has_columns(p, oid, listed))
     }
 
     /// The next row of a copy; None at its end.
@@ -128,6 +160,29 @@ impl<L: LogName + SlotName> ServerState<L> {
             Err(_) => Err(BackendFault::Memory),
         }
     }
+}
+
+/// Whether a publication has all rows of a table, with these columns.
+fn has_whole(publication: &Publication, oid: u32, listed: &[bool]) -> bool {
+    match publication.table(oid) {
+        Some(table) => table.filter.is_none() && covers(table.listed.as_slice(), listed),
+        None => false,
+    }
+}
+
+/// Whether a publication has these columns of a table.
+fn has_columns(publication: &Publication, oid: u32, listed: &[bool]) -> bool {
+    match publication.table(oid) {
+        Some(table) => covers(table.listed.as_slice(), listed),
+        None => false,
+    }
+}
+
+/// Whether a column list has each column of another.
+fn covers(list: &[bool], other: &[bool]) -> bool {
+    list.iter()
+        .zip(other)
+        .all(|(has, is_asked)| *has || !*is_asked)
 }
 
 fn table_named<'p>(publications: &'p Publications, name: &TableName) -> Option<&'p Table> {

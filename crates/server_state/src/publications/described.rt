@@ -24,7 +24,7 @@ pub fn found_table(publications: &Publications, schema: &str, name: &str) -> Opt
 }
 
 /// The table of this OID.
-pub(crate) fn table_by(publications: &Publications, oid: u32) -> Option<&Table> {
+fn table_by(publications: &Publications, oid: u32) -> Option<&Table> {
     publications.tables().iter().find(|t| t.oid == oid)
 }
 
@@ -51,7 +51,7 @@ pub fn attributes_of(
     {
         attributes.push(TableAttribute {
             name: column.name.copy(alloc)?,
-            type_oid: told.type_oid,
+            type_oid: told.kind,
             is_identity: identity_of(table.identity, column.is_key),
         })?;
     }
@@ -67,7 +67,7 @@ fn identity_of(identity: Identity, is_key: bool) -> Option<bool> {
 }
 
 /// A list of all columns of a table.
-pub(crate) fn all_columns(alloc: Global, table: &Table) -> Result<Vec<bool>, AllocError> {
+fn all_columns(alloc: Global, table: &Table) -> Result<Vec<bool>, AllocError> {
     let mut all = Vec::new(alloc);
     all.resize(table.columns.as_slice().len(), true)?;
     Ok(all)
@@ -136,7 +136,7 @@ fn whole(alloc: Global) -> Result<Items<Option<Text>>, AllocError> {
     Ok(Items::new(filters))
 }
 
-fn is_named(publication: &Publication, names: &[Text]) -> bool {
+pub(crate) fn is_named(publication: &Publication, names: &[Text]) -> bool {
     let name = publication.name.as_str();
     names.iter().any(|n| n.as_str() == name)
 }
