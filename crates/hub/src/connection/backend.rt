@@ -7,7 +7,9 @@ use crate::stream::starting::HubStart;
 use connections::{ConnectionMailbox, RefusedCommand, ServerObserver};
 use pqformat::{Items, Text};
 use replcmd::StreamOptions;
-use server::{Backend, BackendFault, Refusal, TableColumns, TableName};
+use server::{
+    Backend, BackendFault, FoundTable, Refusal, TableAttribute, TableColumns, TableName,
+};
 use server_state::{ServerState, columns_of, known_names, tables_of};
 use shared_log::LogName;
 use slots::SlotName;
@@ -141,6 +143,47 @@ impl<'h, L: LogName + SlotName, R: Wait + Clock, G: ServerObserver> Backend
             &self.server_state.publications,
             names.as_slice(),
         )
+    }
+
+    fn table(
+        &mut self,
+        _schema: &str,
+        _name: &str,
+    ) -> Result<Option<FoundTable>, BackendFault> {
+        Err(BackendFault::NoCopies)
+    }
+
+    fn attributes(&mut self, _oid: u32) -> Result<Items<TableAttribute>, BackendFault> {
+        Err(BackendFault::NoCopies)
+    }
+
+    fn column_lists(
+        &mut self,
+        _oid: u32,
+        _publications: &Items<Text>,
+    ) -> Result<Items<Option<Items<u16>>>, BackendFault> {
+        Err(BackendFault::NoCopies)
+    }
+
+    fn row_filters(
+        &mut self,
+        _oid: u32,
+        _publications: &Items<Text>,
+    ) -> Result<Items<Option<Text>>, BackendFault> {
+        Err(BackendFault::NoCopies)
+    }
+
+    fn open_copy(
+        &mut self,
+        _table: &TableName,
+        _columns: &Items<Text>,
+        _filter: &Option<Text>,
+    ) -> Result<(), BackendFault> {
+        Err(BackendFault::NoCopies)
+    }
+
+    fn next_row(&mut self) -> Result<Option<Items<Option<Text>>>, BackendFault> {
+        Err(BackendFault::NoCopies)
     }
 
     fn drop_when_free(&mut self, slot: &str) -> Result<(), BackendFault> {
