@@ -28,7 +28,7 @@ use Rattle.server.specs.Calls.{Call}
 use Rattle.server.specs.Conversation.{Gave, Tried}
 use Rattle.server.specs.Said.{error_of_refusal}
 use Rattle.server.specs.Turns.{Turn, IsTurn, IsFrameTurn, Hears, Opens, Streams, refusal_of}
-use Rattle.server.specs.Segment.{Went, HasText, Asks, Said, IsTurned, TakesTurn}
+use Rattle.server.specs.Segment.{Went, HasCause, Asks, Said, IsTurned, TakesTurn}
 use Rattle.server.proofs.Steps.{nothing_tried, tried_as}
 use Rattle.server.proofs.Segments.{went-none, went-one}
 
@@ -174,11 +174,11 @@ startup_refused_turned service pending fault out out' (Err e) gives other is say
 pub turned_went : {D : Type 0} (told : D → Call → D → Type 0) (old : Connection) (backend : D) (out : List ℕ) (t : Turned) (new : Connection) (backend' : D) (out' : List ℕ)
     → new.service ≡ old.service → new.stage ≡ t.stage → new.pending.items ≡ drop t.count old.pending.items
     → IsTurned old.service old.stage old.pending.items t ((backend' ≡ backend) × (out' ≡ out)) (λ fact. Gave told fact backend out backend' out')
-    → Went told HasText [] old backend out new backend' out'
+    → Went told HasCause [] old backend out new backend' out'
 turned_went told old backend out t new backend' out' service stage pending (inl (none, same, waits, (backends, outs))) =
-    went-none told HasText [] old backend out new backend' out' service (stage ∙ same) (pending ∙ ap (λ (n : ℕ). drop n old.pending.items) none ∙ sym (append-nil old.pending.items)) backends outs
+    went-none told HasCause [] old backend out new backend' out' service (stage ∙ same) (pending ∙ ap (λ (n : ℕ). drop n old.pending.items) none ∙ sym (append-nil old.pending.items)) backends outs
 turned_went told old backend out t new backend' out' service stage pending (inr (some, le, gave)) =
-    went-one told HasText [] old backend out new backend' out' (record { text = take t.count old.pending.items; asked = gave.asked; said = gave.text }) (rw (length-take-le t.count old.pending.items le) some) service (rw stage gave.fact)
+    went-one told HasCause [] old backend out new backend' out' (record { text = take t.count old.pending.items; asked = gave.asked; said = gave.text }) (rw (length-take-le t.count old.pending.items le) some) service (rw stage gave.fact)
     (append-nil old.pending.items ∙ sym (take-append-drop t.count old.pending.items) ∙ ap (λ (l : List ℕ). take t.count old.pending.items ++ l) (sym pending))
     gave.asks gave.says
 

@@ -20,6 +20,7 @@ use Rattle.server.specs.declared.block.Ending.{Ending}
 use Rattle.server.specs.declared.block.Ending.TheVariants.{Commit, Rollback}
 use Rattle.server.specs.declared.block.Apart.{Apart}
 use Rattle.server.specs.declared.block.Apart.TheVariants.{Use, Export, Start}
+use Rattle.server.specs.declared.copy_command.CopyCommand.{CopyCommand}
 use Rattle.server.specs.declared.refusal.Refusal.{Refusal}
 use Rattle.server.specs.declared.refusal.Refusal.TheVariants as refusals
 use Rattle.server.specs.declared.service.Dialect.{Dialect}
@@ -28,6 +29,7 @@ use Rattle.server.specs.declared.stage.Stage.{Stage}
 use Rattle.server.specs.declared.stage.Stage.TheVariants.{Idle, InBlock}
 use Rattle.server.specs.Calls.{Call, CreateSnapshot, ReleaseSnapshot}
 use Rattle.server.specs.Conversation.{RepliesIn}
+use Rattle.server.specs.Copies.{AnswersCopy, ReadsCopy}
 use Rattle.server.specs.Said.{sent_frame, completion, ready, error_and_ready, answer_to_create}
 
 -- ---- texts
@@ -157,7 +159,15 @@ Settles block (Err e) plain (Err f) out out' = Extends out out'
 abbrev pub Goes : Block → List ℕ → List Call → List ℕ → Stage → Type 0
 Goes block query asked said next = (holds : Bool) × (plain : List ℕ) × Says block.state block query holds asked plain × (said ≡ told_in_block plain) × (next ≡ InBlock (block_after block holds plain))
 
+-- A copy is answered apart.
+abbrev pub AnswersRead : Option CopyCommand → Block → List ℕ → List Call → List ℕ → Stage → Type 0
+AnswersRead (Some copy) block query asked said next = AnswersCopy block.state block copy asked said next
+AnswersRead None block query asked said next = Goes block query asked said next
+
+abbrev pub AnswersUnended : Block → List ℕ → List Call → List ℕ → Stage → Type 0
+AnswersUnended block query asked said next = (copy : Option CopyCommand) × ReadsCopy query copy × AnswersRead copy block query asked said next
+
 -- what a query in a block asks and is answered, and where it leads to
 abbrev pub AnswersIn : Option Ending → Block → List ℕ → List Call → List ℕ → Stage → Type 0
 AnswersIn (Some ending) block query asked said next = Ends block ending asked said next
-AnswersIn None block query asked said next = Goes block query asked said next
+AnswersIn None block query asked said next = AnswersUnended block query asked said next

@@ -11,3 +11,6 @@ pub mod Said
 pub mod Arrays
 pub mod Answers
 pub mod Extended
+pub mod RowText
+pub mod TableAnswers
+pub mod Copies

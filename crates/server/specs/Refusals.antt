@@ -61,6 +61,9 @@ backend_code backends.SlotLost = codes "55000"
 backend_code backends.NotOwner = codes "42501"
 backend_code backends.NotGranted = codes "42501"
 backend_code backends.NoCopies = codes "0A000"
+backend_code backends.UnknownTable = codes "42P01"
+backend_code backends.UnknownColumn = codes "42703"
+backend_code backends.UnknownFilter = codes "42601"
 backend_code backends.Memory = codes "53200"
 
 abbrev pub backend_text : BackendFault → List ℕ
@@ -76,6 +79,9 @@ backend_text backends.SlotLost = codes "can no longer get changes from replicati
 backend_text backends.NotOwner = codes "must be owner of replication slot"
 backend_text backends.NotGranted = codes "permission denied for publication"
 backend_text backends.NoCopies = codes "initial copies are not served: use WITH (copy_data = false)"
+backend_text backends.UnknownTable = codes "relation does not exist"
+backend_text backends.UnknownColumn = codes "column does not exist"
+backend_text backends.UnknownFilter = codes "invalid row filter"
 backend_text backends.Memory = codes "out of memory"
 
 abbrev pub refusal_code : Refusal → List ℕ

@@ -18,12 +18,14 @@ use Rattle.server.specs.declared.service.Service.{Service}
 use Rattle.server.specs.declared.refusal.Refusal.{Refusal}
 use Rattle.server.specs.declared.refusal.Refusal.TheVariants.{Violation, Version, ExtendedQuery, FunctionCall}
 use Rattle.server.specs.declared.stage.Stage.{Stage}
-use Rattle.server.specs.declared.stage.Stage.TheVariants.{Fresh, Idle, InBlock, Skipping, Streaming, Stopping, Closed}
+use Rattle.server.specs.declared.stage.Stage.TheVariants.{Fresh, Idle, InBlock, Copying, Skipping, Streaming, Stopping, Closed}
 use Rattle.server.specs.declared.extended.Extended.{Extended}
 use Rattle.server.specs.declared.extended.Extended.TheVariants as extended
 use Rattle.server.specs.declared.block.Block.{Block}
+use Rattle.server.specs.declared.copying.Copying.{Copying as TableCopy}
 use Rattle.server.specs.Blocks.{AnswersIn, begins_block, block_begun, ending_of, new_block}
 use Rattle.server.specs.Calls.{Call, Flushed}
+use Rattle.server.specs.Copies.{CopiesOn}
 use Rattle.server.specs.Conversation.{RepliesIn}
 use Rattle.server.specs.Extended.{SpellsExtended, framed_extended, is_extended}
 use Rattle.server.specs.Opening.{opened_database}
@@ -150,6 +152,10 @@ IsSessionTurn Extends Answers t next =
     ((is_extended t.text ≡ true) × IsExtendedTurn Extends t next)
     ⊎ ((is_extended t.text ≡ false) × IsFrameTurn Answers t next)
 
+-- While a table is copied rows are said for no text, whatever the client sends.
+abbrev pub IsCopyTurn : TableCopy → Turn → Stage → Type 0
+IsCopyTurn copying t next = (t.text ≡ []) × CopiesOn copying t.asked t.said next
+
 -- A turn from one stage to the next. Its text is one startup, or one frame, or it begins with what is neither: then the
 -- connection closes, and all that follows is passed over.
 abbrev pub IsTurn : Service → Stage → Turn → Stage → Type 0
@@ -158,6 +164,7 @@ IsTurn service Fresh t next =
     ⊎ ((fault : FrameFault) × (framed_startup t.text ≡ Err fault) × Refuses (refusal_of fault) t.asked t.said next)
 IsTurn service (Idle database) t next = IsSessionTurn (HearsExtended database) (Hears service.dialect database) t next
 IsTurn service (InBlock block) t next = IsFrameTurn (HearsInBlock block) t next
+IsTurn service (Copying copying) t next = IsCopyTurn copying t next
 IsTurn service (Skipping database) t next = IsSessionTurn (SkipsExtended database) (Skips database) t next
 IsTurn service (Streaming database) t next = IsFrameTurn (Streams database) t next
 IsTurn service (Stopping database) t next = (t ≡ end_turn service.dialect) × (next ≡ Idle database)
@@ -168,12 +175,13 @@ abbrev pub AreTurns : Service → Stage → List Turn → Stage → Type 0
 AreTurns service old [] new = new ≡ old
 AreTurns service old (t ∷ ts) new = (mid : Stage) × IsTurn service old t mid × AreTurns service mid ts new
 
--- No startup and no frame stands whole at the front. While a stream stops, anything is kept; once the connection is
+-- No startup and no frame stands whole at the front, and no row is left to be said. While a stream stops, anything is kept; once the connection is
 -- closed, nothing is left.
 abbrev pub Waits : Stage → List ℕ → Type 0
 Waits Fresh rest = framed_startup rest ≡ Ok None
 Waits (Idle database) rest = (framed_front rest ≡ Ok None) ⊎ (framed_extended rest ≡ Ok None)
 Waits (InBlock block) rest = framed_front rest ≡ Ok None
+Waits (Copying copying) rest = ⊥
 Waits (Skipping database) rest = (framed_front rest ≡ Ok None) ⊎ (framed_extended rest ≡ Ok None)
 Waits (Streaming database) rest = framed_front rest ≡ Ok None
 Waits (Stopping database) rest = Unit {0}

@@ -23,6 +23,12 @@ pub enum BackendFault {
     NotGranted,
     /// Tables are not copied from here.
     NoCopies,
+    /// No table of this name is known.
+    UnknownTable,
+    /// A table has no column of this name.
+    UnknownColumn,
+    /// The text is no row filter of the table.
+    UnknownFilter,
     Memory,
 }
 
@@ -48,6 +54,9 @@ impl fmt::Display for BackendFault {
             BackendFault::NotOwner => "A3: the slot is another user's",
             BackendFault::NotGranted => "A4: the user may not follow a publication",
             BackendFault::NoCopies => "L9: tables are not copied",
+            BackendFault::UnknownTable => "L10: the table does not exist",
+            BackendFault::UnknownColumn => "L11: the column does not exist",
+            BackendFault::UnknownFilter => "L12: the text is no row filter of the table",
             BackendFault::Memory => "out of memory",
         })
     }

@@ -30,6 +30,19 @@ pub struct Block {
     pub(crate) holds: bool,
 }
 
+impl Block {
+    /// The same block in this state.
+    pub(crate) fn with_state(self, state: BlockState) -> Block
+        ensures { result ≡ record { database = self.database; state = state; holds = self.holds } }
+    {
+        Block {
+            database: self.database,
+            state,
+            holds: self.holds,
+        }
+    }
+}
+
 /// What ends a block.
 #[derive(Clone, Copy, Debug, PartialEq, Eq)]
 pub enum Ending {

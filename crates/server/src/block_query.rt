@@ -2,7 +2,7 @@
 
 ghost use Rattle.std.specs.Prelude.{◌≡◌, ◌≤◌, ◌-◌, List, ℕ, None, take, true, length};
 ghost use Rattle.pqformat.specs.Putting.{Puts};
-ghost use Rattle.server.specs.Blocks.{Answers, AnswersIn, Begins, Ends, Goes, Refused, Settles, given, Says, UsesSnapshot, AnswersApart, HasShortSlot, HasShortUse, begins_block, block_after, block_begun, completed, ending_of, is_made, let_go, new_block, told_in_block};
+ghost use Rattle.server.specs.Blocks.{Answers, AnswersIn, AnswersUnended, Begins, Ends, Goes, Refused, Settles, given, Says, UsesSnapshot, AnswersApart, HasShortSlot, HasShortUse, begins_block, block_after, block_begun, completed, ending_of, is_made, let_go, new_block, told_in_block};
 ghost use Rattle.server.specs.Calls.{AreAsked};
 ghost use Rattle.server.specs.Conversation.{Answered};
 ghost use Rattle.server.specs.Turns.{HearsQuery};
@@ -11,6 +11,8 @@ ghost use Rattle.server.specs.declared.block.Block.{Block};
 use crate::backend::Backend;
 use crate::backend_fault::BackendFault;
 use crate::block::{Apart, Block, BlockState, Ending, begins_block, ending_of, is_error, read_apart};
+use crate::copy_command::copy_of;
+use crate::copy_query::answer_copy;
 use crate::database::Database;
 use crate::refusal::Refusal;
 use crate::replying::reply_in;
@@ -331,7 +333,7 @@ fn settle(
     Ok(Stage::InBlock(block_after(block, holds, plain)))
 }
 
-/// Answers a query that doesn't end the block.
+/// Answers a query that neither ends the block nor asks for a copy.
 fn go_on<D: Backend>(
     alloc: Global,
     block: Block,
@@ -375,6 +377,27 @@ fn end<D: Backend>(
     led(said, Stage::Idle(block.database))
 }
 
+/// Answers a query that doesn't end the block.
+fn answer_unended<D: Backend>(
+    alloc: Global,
+    block: Block,
+    query: &str,
+    backend: &mut D,
+    out: &mut BytesMut,
+) -> Result<Stage, AllocError>
+    ensures { Answered D.told result
+        (λ next asked said. AnswersUnended block query.now asked said next) backend.old out.old.items
+        backend.new out.new.items }
+{
+    let Some(copy) = copy_of(alloc, query)? else {
+        return go_on(alloc, block, query, backend, out);
+    };
+    let answered = answer_copy(alloc, block, query, &copy, backend, out);
+    // Let go before the way out, which keeps the proof short.
+    drop(copy);
+    answered
+}
+
 /// Answers a query in a block.
 pub(crate) fn answer_in_block<D: Backend>(
     alloc: Global,
@@ -389,6 +412,6 @@ pub(crate) fn answer_in_block<D: Backend>(
 {
     match ending_of(query) {
         Some(ending) => end(alloc, block, ending, backend, out),
-        None => go_on(alloc, block, query, backend, out),
+        None => answer_unended(alloc, block, query, backend, out),
     }
 }

@@ -3,8 +3,9 @@
 ghost use Rattle.std.specs.Prelude.{◌≡◌, ◌≢◌, ◌++◌, ℕ, List, IfOk, MatchOption};
 ghost use Rattle.std.specs.Str.{IsUtf8};
 ghost use Rattle.server.specs.Questions.{SpellsNames};
+ghost use Rattle.server.specs.Reading.{ClosesList};
 
-use crate::quoted::{LITERAL_QUOTE, quoted_of};
+use crate::literal::literal_of;
 use pqformat::{Items, Text};
 use std::alloc::{AllocError, Global};
 
@@ -26,21 +27,26 @@ pub(crate) fn before<'a>(text: &'a [u8], end: &str) -> Option<&'a [u8]>
     text.strip_suffix(end.as_bytes())
 }
 
-/// The names of a list of which the opening bracket was read, up to the closing one, with which the text ends.
-pub(crate) fn names_of(alloc: Global, text: &[u8]) -> Result<Option<Items<Text>>, AllocError>
-    requires { IsUtf8 text.now }
+/// The names of a list of which the opening bracket was read, up to what closes it, with which the text ends.
+pub(crate) fn names_of(
+    alloc: Global,
+    end: &str,
+    text: &[u8],
+) -> Result<Option<Items<Text>>, AllocError>
+    requires utf8 { IsUtf8 text.now }
+    requires apart { ClosesList end.now }
     ensures { IfOk result
-        (λ found. MatchOption found ((names : List (List ℕ)) → SpellsNames text.now names → ⊥)
-        (λ names. SpellsNames text.now names)) }
+        (λ found. MatchOption found ((names : List (List ℕ)) → SpellsNames end.now text.now names → ⊥)
+        (λ names. SpellsNames end.now text.now names)) }
 {
     let mut names = Vec::new(alloc);
     let mut place = text;
     loop {
-        let Some((name, rest)) = quoted_of(alloc, LITERAL_QUOTE, place)? else {
+        let Some((name, rest)) = literal_of(alloc, place)? else {
             return Ok(None);
         };
         names.push(name)?;
-        if rest == b")".as_slice() {
+        if rest == end.as_bytes() {
             return Ok(Some(Items::new(names)));
         }
         let Some(more) = behind(rest, ", ") else {

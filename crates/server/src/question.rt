@@ -1,16 +1,18 @@
 //! Questions, and their reader.
 
-ghost use Rattle.std.specs.Prelude.{◌≡◌, ◌≢◌, ◌++◌, ℕ, List, IfOk, MatchOption, false, nat_lt, true};
+ghost use Rattle.std.specs.Prelude.{◌≡◌, ◌≢◌, ℕ, List, IfOk, codes, MatchOption, false, nat_lt, true};
 ghost use Rattle.std.specs.List.{list_all};
 ghost use Rattle.std.specs.Str.{IsUtf8};
 ghost use Rattle.pqformat.specs.Quoting.{in_quotes};
 ghost use Rattle.replcmd.specs.Words.{is_slot_name};
-ghost use Rattle.server.specs.Questions.{SpellsDrop, SpellsNames, SpellsQuestion, SpellsShow};
+ghost use Rattle.server.specs.Questions.{SpellsDrop, SpellsListed, SpellsQuestion, SpellsShow};
 ghost use Rattle.server.specs.declared.quoted.TheConstants.{NAME_QUOTE};
-ghost use Rattle.server.specs.Reading.{IsPlain};
+ghost use Rattle.server.specs.Reading.{AsksPublished, IsPlain};
 
 use crate::list::{before, behind, names_of};
 use crate::quoted::{NAME_QUOTE, quoted_of};
+use crate::table_name::TableName;
+use crate::table_question::table_question_of;
 use pqformat::{Items, Text};
 use replcmd::is_slot_name;
 use std::alloc::{AllocError, Global};
@@ -28,6 +30,14 @@ pub enum Question {
     Tables(Items<Text>),
     /// The same tables with their columns that are published.
     Columns(Items<Text>),
+    /// The table of this name.
+    Table(TableName),
+    /// Which columns of the table of this OID the publications of these names publish.
+    ColumnLists(u32, Items<Text>),
+    /// The columns of the table of this OID.
+    Attributes(u32),
+    /// Which rows of the table of this OID the publications of these names publish.
+    RowFilters(u32, Items<Text>),
     /// The value of the parameter of this name. `pg_recvlogical` asks for `data_directory_mode`, to make its own files so.
     Show(Text),
     /// That a slot is dropped as soon as nobody holds it.
@@ -44,19 +54,11 @@ pub fn question_of(alloc: Global, text: &str) -> Result<Option<Question>, AllocE
     if let Some(question) = plain_of(text) {
         return Ok(Some(question));
     }
-    let publications = "SELECT t.pubname FROM\n pg_catalog.pg_publication t WHERE\n t.pubname IN (";
-    if let Some(names) = names_behind(alloc, text, publications)? {
-        return Ok(Some(Question::Publications(names)));
+    if let Some(question) = published_of(alloc, text)? {
+        return Ok(Some(question));
     }
-    let tables =
-        "SELECT DISTINCT t.schemaname, t.tablename \nFROM pg_catalog.pg_publication_tables t\n WHERE t.pubname IN (";
-    if let Some(names) = names_behind(alloc, text, tables)? {
-        return Ok(Some(Question::Tables(names)));
-    }
-    let columns =
-        "SELECT DISTINCT t.schemaname, t.tablename \n, t.attnames\nFROM pg_catalog.pg_publication_tables t\n WHERE t.pubname IN (";
-    if let Some(names) = names_behind(alloc, text, columns)? {
-        return Ok(Some(Question::Columns(names)));
+    if let Some(question) = table_question_of(alloc, text)? {
+        return Ok(Some(question));
     }
     if let Some(name) = parameter_of(alloc, text.as_bytes())? {
         return Ok(Some(Question::Show(name)));
@@ -80,17 +82,40 @@ fn plain_of(text: &str) -> Option<Question>
     }
 }
 
+/// A question for publications, or for their tables.
+fn published_of(alloc: Global, text: &str) -> Result<Option<Question>, AllocError>
+    ensures { IfOk result
+        (λ found. MatchOption found
+        ((question : Question) → AsksPublished question → SpellsQuestion text.now question → ⊥)
+        (λ question. SpellsQuestion text.now question)) }
+{
+    let publications = "SELECT t.pubname FROM\n pg_catalog.pg_publication t WHERE\n t.pubname IN (";
+    if let Some(names) = names_behind(alloc, text, publications)? {
+        return Ok(Some(Question::Publications(names)));
+    }
+    let tables =
+        "SELECT DISTINCT t.schemaname, t.tablename \nFROM pg_catalog.pg_publication_tables t\n WHERE t.pubname IN (";
+    if let Some(names) = names_behind(alloc, text, tables)? {
+        return Ok(Some(Question::Tables(names)));
+    }
+    let columns =
+        "SELECT DISTINCT t.schemaname, t.tablename \n, t.attnames\nFROM pg_catalog.pg_publication_tables t\n WHERE t.pubname IN (";
+    match names_behind(alloc, text, columns)? {
+        Some(names) => Ok(Some(Question::Columns(names))),
+        None => Ok(None),
+    }
+}
+
 /// The names of the list after this text, where it stands at the front.
 fn names_behind(alloc: Global, text: &str, front: &str) -> Result<Option<Items<Text>>, AllocError>
     requires { list_all (λ b. nat_lt b 128) front.now ≡ true }
     ensures { IfOk result
         (λ found. MatchOption found
-        ((list : List ℕ) (names : List (List ℕ)) → text.now ≡ front.now ++ list →
-        SpellsNames list names → ⊥)
-        (λ names. (list : List ℕ) × (text.now ≡ front.now ++ list) × SpellsNames list names)) }
+        ((names : List (List ℕ)) → SpellsListed text.now front.now (codes ")") names → ⊥)
+        (λ names. SpellsListed text.now front.now (codes ")") names)) }
 {
     match behind(text.as_bytes(), front) {
-        Some(list) => names_of(alloc, list),
+        Some(list) => names_of(alloc, ")", list),
         None => Ok(None),
     }
 }

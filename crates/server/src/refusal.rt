@@ -117,6 +117,9 @@ impl Refusal {
                 "0A000",
                 "initial copies are not served: use WITH (copy_data = false)",
             ),
+            Refusal::Asked(BackendFault::UnknownTable) => ("42P01", "relation does not exist"),
+            Refusal::Asked(BackendFault::UnknownColumn) => ("42703", "column does not exist"),
+            Refusal::Asked(BackendFault::UnknownFilter) => ("42601", "invalid row filter"),
             Refusal::Asked(BackendFault::Memory) => ("53200", "out of memory"),
         }
     }

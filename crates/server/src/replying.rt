@@ -14,6 +14,7 @@ use crate::say::{say_dropped, say_refused_ready};
 use crate::say_answers::{say_found_tables, say_path_set, say_publications, say_shown};
 use crate::say_columns_told::say_found_columns;
 use crate::service::Dialect;
+use crate::telling_table::{tell_attributes, tell_column_lists, tell_row_filters, tell_table};
 use bytes::BytesMut;
 use pqformat::{Items, Text};
 use replcmd::Strictness;
@@ -138,6 +139,10 @@ fn answer_question<D: Backend>(
         Question::Publications(names) => tell_publications(alloc, names, backend, out),
         Question::Tables(names) => tell_tables(alloc, names, backend, out),
         Question::Columns(names) => tell_columns(alloc, names, backend, out),
+        Question::Table(table) => tell_table(alloc, table, backend, out),
+        Question::ColumnLists(oid, names) => tell_column_lists(alloc, *oid, names, backend, out),
+        Question::Attributes(oid) => tell_attributes(alloc, *oid, backend, out),
+        Question::RowFilters(oid, names) => tell_row_filters(alloc, *oid, names, backend, out),
         Question::Show(name) => show(alloc, query, name, backend, out),
         Question::DropWhenFree(slot) => drop_when_free(alloc, slot, backend, out),
     }
@@ -221,6 +226,10 @@ fn comes_first(question: &Question) -> bool
         | Question::InitialCopy
         | Question::Publications(_)
         | Question::Tables(_)
+        | Question::Table(_)
+        | Question::ColumnLists(_, _)
+        | Question::Attributes(_)
+        | Question::RowFilters(_, _)
         | Question::DropWhenFree(_) => true,
     }
 }

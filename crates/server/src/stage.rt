@@ -6,6 +6,7 @@ ghost use Rattle.server.specs.Said.{error_of_refusal};
 ghost use Rattle.server.specs.Turns.{refusal_of};
 
 use crate::block::Block;
+use crate::copying::Copying;
 use crate::database::Database;
 use crate::refusal::Refusal;
 use crate::say::say_refused;
@@ -22,6 +23,8 @@ pub enum Stage {
     Idle(Database),
     /// A query is, in a transaction block.
     InBlock(Block),
+    /// The rows of a table are copied.
+    Copying(Copying),
     /// An extended query was refused, and its Sync is waited for.
     Skipping(Database),
     /// A stream has begun.

@@ -1,12 +1,12 @@
 //! One turn of a conversation: the startup or the frame at the front of what is pending, and its answer.
 
-ghost use Rattle.std.specs.Prelude.{◌≡◌, ◌≤◌, ◌+◌, length, OnErr, IfOk, codes};
+ghost use Rattle.std.specs.Prelude.{◌≡◌, ◌≤◌, ◌+◌, length, OnErr, IfOk, codes, false};
 ghost use Rattle.frames.specs.Parameter.{parameter};
 ghost use Rattle.frames.specs.Startup.{startup_body};
 ghost use Rattle.pqformat.specs.Putting.{Extends, Puts};
 ghost use Rattle.pqformat.specs.Steps.{closed_list};
 ghost use Rattle.frames.specs.declared.startup.Startup.TheVariants.{Session};
-ghost use Rattle.server.specs.Segment.{IsTurned, TakesTurn, Said};
+ghost use Rattle.server.specs.Segment.{IsTurned, TakesTurn, Said, is_copying};
 ghost use Rattle.server.specs.Turns.{Opens};
 ghost use Rattle.server.specs.declared.stage.Stage.TheVariants.{Fresh};
 
@@ -113,6 +113,7 @@ pub(crate) fn turn<D: Backend>(
     backend: &mut D,
     out: &mut BytesMut,
 ) -> Result<Turned, AllocError>
+    requires { is_copying stage ≡ false }
     ensures { TakesTurn D.told service stage pending.now result backend.old out.old.items backend.new
         out.new.items }
 {
@@ -120,6 +121,11 @@ pub(crate) fn turn<D: Backend>(
         Stage::Fresh => turn_startup(alloc, service, pending, out),
         Stage::Idle(database) => turn_session(alloc, service, database, pending, backend, out),
         Stage::InBlock(block) => turn_block(alloc, block, pending, backend, out),
+        // Its turns are taken by another function.
+        Stage::Copying(copying) => Ok(Turned {
+            stage: Stage::Copying(copying),
+            count: 0,
+        }),
         Stage::Skipping(database) => turn_skipping(alloc, database, pending, out),
         Stage::Streaming(database) => turn_stream(alloc, database, pending, backend, out),
         Stage::Stopping(database) => Ok(Turned {

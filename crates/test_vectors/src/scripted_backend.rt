@@ -2,7 +2,9 @@
 
 use pqformat::{Items, Text};
 use replcmd::StreamOptions;
-use server::{Backend, BackendFault, TableColumns, TableName};
+use server::{
+    Backend, BackendFault, FoundTable, TableAttribute, TableColumns, TableIdentity, TableName,
+};
 use std::alloc::{AllocError, Global};
 
 /// The slots that it refuses, and why. It takes any other.
@@ -17,21 +19,56 @@ const REFUSED: [(&str, BackendFault); 8] = [
     ("poor", BackendFault::Memory),
 ];
 
+/// The OIDs of its tables.
+const ITEM: u32 = 16424;
+
+const KEYLESS: u32 = 16425;
+
+/// How many rows its largest table has.
+const MANY_ROWS: u32 = 3000;
+
 /// Where its log ends: an empty log's first position.
 const END: u64 = 0x100_0000;
 
 /// The backend of a system called 42.
 #[derive(Drop)]
 pub struct ScriptedBackend {
+    alloc: Global,
     asked: String,
+    /// What is left of the copy that was begun.
+    copy: ScriptedCopy,
     /// Whether there was memory for all that was to be written down.
     is_whole: bool,
 }
 
+/// What is left of a copy.
+#[derive(Clone, Copy)]
+enum ScriptedCopy {
+    Over,
+    /// The rows of `item` from this one on.
+    Items(usize),
+    /// So many rows alike.
+    Many(u32),
+    /// One row, and then a fault.
+    Torn,
+    Broken,
+}
+
+/// A row as the script has it.
+type ScriptedRow = [Option<&'static str>; 3];
+
+const ITEM_ROWS: [ScriptedRow; 3] = [
+    [Some("1"), Some("a\tb\\c\n"), Some("7")],
+    [Some("2"), None, Some("8")],
+    [Some("3"), Some("\\N"), Some("")],
+];
+
 impl ScriptedBackend {
     pub fn new(alloc: Global) -> Self {
         ScriptedBackend {
+            alloc,
             asked: String::new(alloc),
+            copy: ScriptedCopy::Over,
             is_whole: true,
         }
     }
@@ -42,6 +79,34 @@ impl ScriptedBackend {
             Some(self.asked.as_str())
         } else {
             None
+        }
+    }
+
+    /// The next row of the copy.
+    fn step_copy(&mut self) -> Result<Option<ScriptedRow>, BackendFault> {
+        match self.copy {
+            ScriptedCopy::Over => Ok(None),
+            ScriptedCopy::Items(place) => {
+                let row = ITEM_ROWS.get(place).copied();
+                self.copy = match row {
+                    Some(_) => ScriptedCopy::Items(place.saturating_add(1)),
+                    None => ScriptedCopy::Over,
+                };
+                Ok(row)
+            }
+            ScriptedCopy::Many(0) => {
+                self.copy = ScriptedCopy::Over;
+                Ok(None)
+            }
+            ScriptedCopy::Many(left) => {
+                self.copy = ScriptedCopy::Many(left.saturating_sub(1));
+                Ok(Some([Some("one"), Some("of very many rows"), Some("alike")]))
+            }
+            ScriptedCopy::Torn => {
+                self.copy = ScriptedCopy::Broken;
+                Ok(Some([Some("1"), None, None]))
+            }
+            ScriptedCopy::Broken => Err(BackendFault::Memory),
         }
     }
 
@@ -99,6 +164,100 @@ impl Backend for ScriptedBackend {
         Err(BackendFault::UnknownPublication)
     }
 
+    fn table(&mut self, schema: &str, name: &str) -> Result<Option<FoundTable>, BackendFault> {
+        let noted = write!(self.asked, "(table, {schema:?}, {name:?}), ");
+        self.note(noted);
+        Ok(match name {
+            "poor" => return Err(BackendFault::Memory),
+            "item" => Some(FoundTable {
+                oid: ITEM,
+                identity: TableIdentity::Default,
+            }),
+            "a'\\b" => Some(FoundTable {
+                oid: KEYLESS,
+                identity: TableIdentity::Full,
+            }),
+            "nothing" => Some(FoundTable {
+                oid: u32::MAX,
+                identity: TableIdentity::Nothing,
+            }),
+            _ => None,
+        })
+    }
+
+    fn attributes(&mut self, oid: u32) -> Result<Items<TableAttribute>, BackendFault> {
+        let noted = write!(self.asked, "(attributes, {oid}), ");
+        self.note(noted);
+        match attributes_of(self.alloc, oid) {
+            Ok(attributes) => Ok(Items::new(attributes)),
+            Err(_) => Err(BackendFault::Memory),
+        }
+    }
+
+    fn column_lists(
+        &mut self,
+        oid: u32,
+        publications: &Items<Text>,
+    ) -> Result<Items<Option<Items<u16>>>, BackendFault> {
+        let names = publications.as_slice();
+        let noted = write!(self.asked, "(column_lists, {oid}, {names:?}), ");
+        self.note(noted);
+        match lists_of(self.alloc, names) {
+            Ok(lists) => Ok(Items::new(lists)),
+            Err(_) => Err(BackendFault::Memory),
+        }
+    }
+
+    fn row_filters(
+        &mut self,
+        oid: u32,
+        publications: &Items<Text>,
+    ) -> Result<Items<Option<Text>>, BackendFault> {
+        let names = publications.as_slice();
+        let noted = write!(self.asked, "(row_filters, {oid}, {names:?}), ");
+        self.note(noted);
+        match filters_of(self.alloc, names) {
+            Ok(filters) => Ok(Items::new(filters)),
+            Err(_) => Err(BackendFault::Memory),
+        }
+    }
+
+    fn open_copy(
+        &mut self,
+        table: &TableName,
+        columns: &Items<Text>,
+        filter: &Option<Text>,
+    ) -> Result<(), BackendFault> {
+        let schema = table.schema.as_str();
+        let name = table.name.as_str();
+        let columns = columns.as_slice();
+        let noted = write!(
+            self.asked,
+            "(open_copy, {schema:?}, {name:?}, {columns:?}, {filter:?}), "
+        );
+        self.note(noted);
+        self.copy = match name {
+            "item" => ScriptedCopy::Items(0),
+            "many" => ScriptedCopy::Many(MANY_ROWS),
+            "torn" => ScriptedCopy::Torn,
+            "empty" => ScriptedCopy::Over,
+            "narrow" => return Err(BackendFault::UnknownColumn),
+            "strange" => return Err(BackendFault::UnknownFilter),
+            _ => return Err(BackendFault::UnknownTable),
+        };
+        Ok(())
+    }
+
+    fn next_row(&mut self) -> Result<Option<Items<Option<Text>>>, BackendFault> {
+        let Some(row) = self.step_copy()? else {
+            return Ok(None);
+        };
+        match row_of(self.alloc, &row) {
+            Ok(row) => Ok(Some(Items::new(row))),
+            Err(_) => Err(BackendFault::Memory),
+        }
+    }
+
     fn drop_when_free(&mut self, slot: &str) -> Result<(), BackendFault> {
         self.drop_slot(slot)
     }
@@ -127,4 +286,54 @@ fn answer_of(slot: &str) -> Result<(), BackendFault> {
         }
     }
     Ok(())
+}
+
+fn row_of(alloc: Global, row: &ScriptedRow) -> Result<Vec<Option<Text>>, AllocError> {
+    let mut values = Vec::new(alloc);
+    for value in row {
+        values.push(match value {
+            Some(text) => Some(Text::copy_of(alloc, text)?),
+            None => None,
+        })?;
+    }
+    Ok(values)
+}
+
+fn attributes_of(alloc: Global, oid: u32) -> Result<Vec<TableAttribute>, AllocError> {
+    let mut attributes = Vec::new(alloc);
+    for (name, type_oid) in &[("id", 23), ("name", 25), ("qty", 20)] {
+        attributes.push(TableAttribute {
+            name: Text::copy_of(alloc, name)?,
+            type_oid: *type_oid,
+            is_identity: match oid {
+                ITEM => Some(*name == "id"),
+                _ => None,
+            },
+        })?;
+    }
+    Ok(attributes)
+}
+
+/// `listed` publishes two columns, the others all.
+fn lists_of(alloc: Global, names: &[Text]) -> Result<Vec<Option<Items<u16>>>, AllocError> {
+    let mut lists = Vec::new(alloc);
+    for name in names {
+        lists.push(match name.as_str() {
+            "listed" => Some(Items::new(Vec::from_array(alloc, [1, 3])?)),
+            _ => None,
+        })?;
+    }
+    Ok(lists)
+}
+
+/// `filtered` publishes some rows, the others all.
+fn filters_of(alloc: Global, names: &[Text]) -> Result<Vec<Option<Text>>, AllocError> {
+    let mut filters = Vec::new(alloc);
+    for name in names {
+        filters.push(match name.as_str() {
+            "filtered" => Some(Text::copy_of(alloc, "(id > 1)")?),
+            _ => None,
+        })?;
+    }
+    Ok(filters)
 }

@@ -1,7 +1,7 @@
 use Rattle.std.proofs.Common.{refl}
 use Rattle.server.specs.declared.connection.Connection.{Connection}
 use Rattle.server.proofs.Turning.{turned_went}
-use Rattle.server.proofs.connection.Connection.step.Goals as goal
+use Rattle.server.proofs.connection.Connection.take_turn.Goals as goal
 
 pub returns-clause-went : goal.returns-clause-went
 returns-clause-went g c =
