@@ -157,9 +157,14 @@ impl<'h, L: LogName + SlotName, R: Wait + Clock, G: ServerObserver> Backend
             return Err(BackendFault::NoCopies);
         };
         let filter = filter.as_ref().map(|text| text.as_str());
-        let copy = self
-            .server_state
-            .open_copy(self.rt, snapshot, table, columns.as_slice(), filter)?;
+        let copy = self.server_state.open_copy(
+            self.rt,
+            snapshot,
+            name_of(self.user),
+            table,
+            columns.as_slice(),
+            filter,
+        )?;
         self.copies.copy = Some(copy);
         Ok(())
     }
