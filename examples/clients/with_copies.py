@@ -139,11 +139,13 @@ class Rows:
             rows = [row for row in rows if row[0] in ("a", "b")]
         if name == "list":
             rows = [(row[0], row[2]) for row in rows]
-        return sorted("|".join("\\N" if value is None else escaped(value) for value in row) for row in rows)
+        if name == "kind":
+            rows = [(row[0], {"t": "true", "f": "false", None: None}[row[1]], *row[2:]) for row in rows]
+        return lines_of(rows)
 
 
-def escaped(value):
-    return value.encode("unicode_escape").decode()
+def lines_of(rows):
+    return sorted("|".join("\\N" if value is None else value.encode("unicode_escape").decode() for value in row) for row in rows)
 
 
 def literal(name, row):
@@ -168,8 +170,7 @@ def held(postgres, name):
     """The same lines of what the table holds there."""
     shown = [column for column, _, _, _ in TABLES[name] if column != "hidden"]
     asked = "SELECT json_build_array(" + ",".join(f'"{column}"::text' for column in shown) + f") FROM {name}"
-    rows = [json.loads(line) for line in postgres.ask(asked)]
-    return sorted("|".join("\\N" if value is None else escaped(value) for value in row) for row in rows)
+    return lines_of(json.loads(line) for line in postgres.ask(asked))
 
 
 def wrong_rows(postgres, rows):
