@@ -6,8 +6,10 @@ pub mod Extending
 pub mod Passing
 pub mod Turning
 pub mod Quotes
+pub mod Literals
 pub mod Lists
 pub mod Slots
+pub mod TableQuestions
 pub mod Once
 pub mod Blocks
 pub mod Rows

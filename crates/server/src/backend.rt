@@ -75,7 +75,7 @@ pub trait Backend {
 
     /// The table of this name; None where there is none. Or it answers why it tells none, such as `Memory`.
     fn table(&mut self, schema: &str, name: &str) -> Result<Option<FoundTable>, BackendFault>
-        ensures told { told self.old (Table schema.now name.now result) self.new };
+        ensures { told self.old (Table schema.now name.now result) self.new };
 
     /// All columns of the table of this OID, in order; none where there is no such table. Or it answers why it tells none, such as
     /// `Memory`.
