@@ -5,6 +5,8 @@ pub mod Segments
 pub mod Extending
 pub mod Passing
 pub mod Turning
+pub mod Copying
+pub mod RowTexts
 pub mod Quotes
 pub mod Literals
 pub mod Lists

@@ -1,9 +1,10 @@
 //! A copy that runs in a block: its rows, some at a time.
 
-ghost use Rattle.std.specs.Prelude.{◌≡◌, Bool, true, false};
+ghost use Rattle.std.specs.Prelude.{◌≡◌, ◌+◌, ◌<◌, [], length, true, IfOk};
 ghost use Rattle.server.specs.Conversation.{Answered};
 ghost use Rattle.server.specs.Copies.{CopiesOn, row_led};
-ghost use Rattle.server.specs.Segment.{OneTurn, is_copying};
+ghost use Rattle.server.specs.Segment.{OneTurn, is_copying, rows_left};
+ghost use Rattle.server.specs.declared.stage.Stage.TheVariants.{Copying};
 ghost use Rattle.server.specs.declared.service.Service.{Service};
 
 use crate::backend::Backend;
@@ -41,9 +42,12 @@ fn add_row<D: Backend>(
     backend: &mut D,
     out: &mut BytesMut,
 ) -> Result<bool, AllocError>
-    ensures { Answered D.told result
+    ensures says { Answered D.told result
         (λ more asked said. CopiesOn copying.old asked said (row_led more copying.new)) backend.old
         out.old.items backend.new out.new.items }
+    ensures less { IfOk result
+        (λ more. rows_left (row_led more copying.new) < rows_left (Copying copying.old)) }
+    ensures longer { IfOk result (λ more. length out.old.items < length out.new.items) }
 {
     match backend.next_row() {
         Ok(Some(row)) => {
@@ -70,8 +74,9 @@ fn add_rows<D: Backend>(
     backend: &mut D,
     out: &mut BytesMut,
 ) -> Result<Stage, AllocError>
-    ensures { Answered D.told result (λ next asked said. CopiesOn copying asked said next)
+    ensures says { Answered D.told result (λ next asked said. CopiesOn copying asked said next)
         backend.old out.old.items backend.new out.new.items }
+    ensures less { IfOk result (λ next. rows_left next < rows_left (Copying copying)) }
 {
     let until = out.len().saturating_add(MOST_ADDED_BYTES);
     while add_row(alloc, &mut copying, backend, out)? {
@@ -90,9 +95,10 @@ pub(crate) fn turn_copy<D: Backend>(
     out: &mut BytesMut,
 ) -> Result<Stage, AllocError>
     requires { is_copying stage ≡ true }
-    ensures { (service : Service) →
+    ensures says { (service : Service) →
         Answered D.told result (λ next asked said. OneTurn service stage [] next asked said)
         backend.old out.old.items backend.new out.new.items }
+    ensures less { IfOk result (λ next. rows_left next < rows_left stage) }
 {
     match stage {
         Stage::Copying(copying) => add_rows(alloc, copying, backend, out),
