@@ -5,7 +5,7 @@ pub mod Segments
 pub mod Extending
 pub mod Passing
 pub mod Turning
-pub mod Copying
+pub mod CopySteps
 pub mod RowTexts
 pub mod Quotes
 pub mod Literals

@@ -1,8 +1,10 @@
 -- Rows that were copied are read back uniquely, and fit their frames.
-use Rattle.std.proofs.Common.{◌≡◌, ℕ, ◌+◌, ◌*◌, ◌^◌, ◌<◌, ◌≤◌, Bool, true, false, cond, eqb, List, [], ◌∷◌, ◌++◌, length, Option, Some, None, refl, sym, ap, subst, ◌∙◌, inl, inr, append_assoc, arith}
-use Rattle.std.specs.Prelude.{◌≢◌, ◌⊎◌, codes}
+use Rattle.std.proofs.Common.{◌≡◌, ℕ, ◌+◌, ◌*◌, ◌^◌, ◌<◌, ◌≤◌, Bool, true, false, cond, eqb, List, [], ◌∷◌, ◌++◌, length, Option, Some, None, refl, sym, ap, subst, ◌∙◌, inl, inr, append_assoc, append-nil, arith}
+use Rattle.std.specs.Prelude.{◌≢◌, ◌⊎◌, codes, replicate}
 use Rattle.std.specs.List.{flat_map, AllByRecursion}
 use Rattle.std.proofs.lemmas.Bool.{eqb-true}
+use Rattle.std.proofs.lemmas.Grind.{flat_map-append, replicate_next}
+use Rattle.pqformat.specs.Fields.{int16}
 use Rattle.std.proofs.lemmas.List.{length-append}
 use Rattle.std.proofs.lemmas.List.Concat.{flat_map-cons}
 use Rattle.server.specs.RowText.{AreShortValues, IsShortValue, copied_byte, copied_value, further_value, row_text}
@@ -250,3 +252,8 @@ pub row_fits : (values : List (Option (List ℕ))) → AreShortValues values →
 row_fits [] short = omega arith
 row_fits (v ∷ values) short =
     omega (arith, short.0, value_short v short.1.0, others_short values short.1.1, length-append (copied_value v) (flat_map further_value values ++ (10 ∷ [])), length-append (flat_map further_value values) (10 ∷ []))
+
+-- ---- formats
+
+pub formats_more : (i : ℕ) → flat_map int16 (replicate (i + 1) 0) ≡ flat_map int16 (replicate i 0) ++ int16 0
+formats_more i = ap (flat_map int16) (replicate_next i 0) ∙ flat_map-append int16 (replicate i 0) (0 ∷ []) ∙ ap (λ (l : List ℕ). flat_map int16 (replicate i 0) ++ l) (append-nil (int16 0))

@@ -4,7 +4,8 @@ use Rattle.std.specs.Prelude.{◌≢◌, ◌&&◌, codes}
 use Rattle.std.specs.Char.{is_ascii_digit}
 use Rattle.std.specs.Fmt.{decimal}
 use Rattle.std.specs.List.{list_all}
-use Rattle.std.proofs.lemmas.Fmt.{decimal_by_steps, decimal_injective}
+use Rattle.std.specs.Str.Parse.{digits_value}
+use Rattle.std.proofs.lemmas.Fmt.{decimal_by_steps, decimal_injective, decimal_is_IsNumeral}
 use Rattle.std.proofs.lemmas.List.{append_cancel_left}
 use Rattle.pqformat.specs.Quoting.{begins}
 use Rattle.pqformat.proofs.Quoting.{found}
@@ -52,6 +53,13 @@ pub number_once : (m n : ℕ) (x y : List ℕ) → m < 2 ^ 32 → n < 2 ^ 32 →
 number_once m n x y small_m small_n end_x end_y e =
     let same = digits_once (decimal m) (decimal n) x y (decimal_digits m (omega arith)) (decimal_digits n (omega arith)) end_x end_y e in
     (decimal_injective m n (omega arith) (omega arith) same.0, same.1)
+
+-- the number that is read is the one that is spelled
+pub number_read : (text digits rest : List ℕ) (oid : ℕ) (other : List ℕ) → text ≡ digits ++ rest → list_all is_ascii_digit digits ≡ true → begins is_ascii_digit rest ≡ false
+    → oid < 2 ^ 32 → begins is_ascii_digit other ≡ false → text ≡ decimal oid ++ other → (digits ≡ decimal oid) × (digits_value 10 digits ≡ oid) × (rest ≡ other)
+number_read text digits rest oid other is all end small ends spelled =
+    let same = digits_once digits (decimal oid) rest other all (decimal_digits oid (omega arith)) end ends (sym is ∙ spelled) in
+    (same.0, ap (digits_value 10) same.0 ∙ (decimal_is_IsNumeral oid (omega arith)).1, same.1)
 
 -- a number between two texts, and what follows
 between_once : (front end : List ℕ) (m n : ℕ) (x y : List ℕ) → m < 2 ^ 32 → n < 2 ^ 32 → begins is_ascii_digit (end ++ x) ≡ false → begins is_ascii_digit (end ++ y) ≡ false

@@ -158,7 +158,26 @@ pub record CopiesOn (copying : Copying) (asked : List Call) (said : List ℕ) (n
   pub say : said ≡ flat_map copied_row rows ++ end_said (copying.count + length rows) end
   pub led : next ≡ after_rows copying.block (copying.count + length rows) end
 
--- where one row leads to, or the end
-abbrev pub row_led : Bool → Copying → Stage
-row_led true copying = stages.Copying copying
-row_led false copying = stages.InBlock copying.block
+-- ---- one row
+
+-- what is said of what the backend gives
+abbrev pub next_said : ℕ → Result (Option (List (Option (List ℕ)))) BackendFault → List ℕ
+next_said count (Ok (Some row)) = copied_row row
+next_said count (Ok None) = copy_ended count
+next_said count (Err fault) = refused_in_block (Asked fault)
+
+abbrev pub after_row : Copying → Result (Option (List (Option (List ℕ)))) BackendFault → Stage
+after_row copying (Ok (Some row)) = stages.Copying (record { block = copying.block; count = copying.count + 1 })
+after_row copying (Ok None) = stages.InBlock copying.block
+after_row copying (Err fault) = stages.InBlock (failed copying.block)
+
+-- a copy goes on at this stage
+abbrev pub CopiesFrom : Stage → List Call → List ℕ → Stage → Type 0
+CopiesFrom (stages.Copying copying) asked said next = CopiesOn copying asked said next
+CopiesFrom stages.Fresh asked said next = ⊥
+CopiesFrom (stages.Idle database) asked said next = ⊥
+CopiesFrom (stages.InBlock block) asked said next = ⊥
+CopiesFrom (stages.Skipping database) asked said next = ⊥
+CopiesFrom (stages.Streaming database) asked said next = ⊥
+CopiesFrom (stages.Stopping database) asked said next = ⊥
+CopiesFrom stages.Closed asked said next = ⊥

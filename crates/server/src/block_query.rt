@@ -52,7 +52,7 @@ fn new_block(database: Database) -> Block
 }
 
 /// Where it leads to that this was said.
-fn led(said: Result<(), AllocError>, stage: Stage) -> Result<Stage, AllocError>
+pub(crate) fn led(said: Result<(), AllocError>, stage: Stage) -> Result<Stage, AllocError>
     ensures { result ≡ given said stage }
 {
     match said {

@@ -1,7 +1,7 @@
 use Rattle.std.proofs.Common.{◌<◌, refl}
 use Rattle.std.proofs.lemmas.Bool.{ltb-true}
 use Rattle.server.specs.declared.connection.Connection.{Connection}
-use Rattle.server.proofs.Copying.{taken_less, turned_less}
+use Rattle.server.proofs.CopySteps.{taken_less, turned_less}
 use Rattle.server.proofs.Turning.{turned_went}
 use Rattle.server.proofs.connection.Connection.take_turn.Goals as goal
 
