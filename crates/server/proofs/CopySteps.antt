@@ -102,7 +102,7 @@ copied_tried told service stage pending backend backend' tried =
 -- ---- one row
 
 pub row_copies : (copying : Copying) (answer : Result (Option (List (Option (List ℕ)))) BackendFault) → CopiesOn copying (NextRow answer ∷ []) (next_said copying.count answer) (after_row copying answer)
-row_copies copying (Ok (Some row)) = record { rows = row ∷ []; end = None; some = omega arith; ask = refl; say = sym (append-nil (copied_row row) ) ∙ sym (append-nil (copied_row row ++ [])); led = refl }
+row_copies copying (Ok (Some row)) = record { rows = row ∷ []; end = None; some = omega arith; ask = refl; say = sym (append-nil (copied_row row)) ∙ sym (append-nil (copied_row row ++ [])); led = refl }
 row_copies copying (Ok None) = record { rows = []; end = Some (Ok tt); some = omega arith; ask = refl; say = ap copy_ended (zero_more copying.count); led = refl }
   where
     zero_more : (n : ℕ) → n ≡ n + 0
@@ -153,7 +153,7 @@ pub further : (old mid : Copying) (xs ys : List Call) (a b : List ℕ) (next : S
 further old mid xs ys a b next first then =
     let rows = first.rows ++ then.rows in
     let count : mid.count + length then.rows ≡ old.count + length rows =
-        ap (λ (n : ℕ). n + length then.rows) (ap (λ (c : Copying). c.count) first.same) ∙ omega (arith, length-append first.rows then.rows) in
+    ap (λ (n : ℕ). n + length then.rows) (ap (λ (c : Copying). c.count) first.same) ∙ omega (arith, length-append first.rows then.rows) in
     let block : mid.block ≡ old.block = ap (λ (c : Copying). c.block) first.same in
     record {
       rows = rows;

@@ -17,7 +17,7 @@ use Rattle.server.proofs.Quotes.{quoted_leaves_text, quoted_reads, quoted_spells
 undoubled_reads : (text : List ℕ) → undoubled (with_doubled_quotes BACKSLASH text) ≡ Some text
 undoubled_reads text =
     let read : quoted_at false BACKSLASH (with_doubled_quotes BACKSLASH text ++ BACKSLASH ∷ []) ≡ found text [] =
-        ap (quoted_at false BACKSLASH) (sym (append-nil (with_doubled_quotes BACKSLASH text ++ BACKSLASH ∷ []))) ∙ whole_again BACKSLASH text [] refl in
+    ap (quoted_at false BACKSLASH) (sym (append-nil (with_doubled_quotes BACKSLASH text ++ BACKSLASH ∷ []))) ∙ whole_again BACKSLASH text [] refl in
     ap alone read
 
 alone_is : (o : Option (List ℕ × List ℕ)) (text : List ℕ) → alone o ≡ Some text → o ≡ found text []
@@ -60,7 +60,7 @@ literal_spells (b ∷ bytes) text rest e = by_test (eqb b 69) (λ is. eqb-true b
     by_test true same e =
         let x = front_is (quoted_front LITERAL_QUOTE bytes) text rest e in
         let spelled : bytes ≡ in_quotes LITERAL_QUOTE (with_doubled_quotes BACKSLASH text) ++ rest =
-            quoted_spells LITERAL_QUOTE bytes x.0 rest x.1 ∙ ap (λ (l : List ℕ). in_quotes LITERAL_QUOTE l ++ rest) (undoubled_spells x.0 text x.2) in
+        quoted_spells LITERAL_QUOTE bytes x.0 rest x.1 ∙ ap (λ (l : List ℕ). in_quotes LITERAL_QUOTE l ++ rest) (undoubled_spells x.0 text x.2) in
         (codes "E" ++ in_quotes LITERAL_QUOTE (with_doubled_quotes BACKSLASH text), inr refl, ap (λ (n : ℕ). n ∷ bytes) (same refl) ∙ ap (λ (l : List ℕ). 69 ∷ l) spelled)
 
 pub literal_leaves_text : (place text rest : List ℕ) → IsUtf8 place → literal_front place ≡ found text rest → IsUtf8 rest

@@ -66,7 +66,7 @@ between_once : (front end : List ℕ) (m n : ℕ) (x y : List ℕ) → m < 2 ^ 3
     → (front ++ (decimal m ++ end)) ++ x ≡ (front ++ (decimal n ++ end)) ++ y → (m ≡ n) × (x ≡ y)
 between_once front end m n x y small_m small_n end_x end_y e =
     let right : (o : ℕ) (l : List ℕ) → (front ++ (decimal o ++ end)) ++ l ≡ front ++ (decimal o ++ (end ++ l)) =
-        λ o l. append_assoc front (decimal o ++ end) l ∙ ap (λ (k : List ℕ). front ++ k) (append_assoc (decimal o) end l) in
+    λ o l. append_assoc front (decimal o ++ end) l ∙ ap (λ (k : List ℕ). front ++ k) (append_assoc (decimal o) end l) in
     let inner = append_cancel_left front (decimal m ++ (end ++ x)) (decimal n ++ (end ++ y)) (sym (right m x) ∙ e ∙ right n y) in
     let same = number_once m n (end ++ x) (end ++ y) small_m small_n end_x end_y inner in
     (same.0, append_cancel_left end x y same.1)
@@ -94,8 +94,8 @@ table_once text m n (schema_m, name_m, schema_is_m, name_is_m, x) (schema_n, nam
     let middle : List ℕ → List ℕ = λ l. codes "   AND c.relname = " ++ l in
     let inner = append_cancel_left (codes "SELECT c.oid, c.relreplident, c.relkind  FROM pg_catalog.pg_class c  INNER JOIN pg_catalog.pg_namespace n        ON (c.relnamespace = n.oid) WHERE n.nspname = ") (schema_m ++ middle name_m) (schema_n ++ middle name_n) (sym x ∙ y) in
     let first = same_first m.schema (middle name_m) n.schema (middle name_n)
-        (sym (literal_reads schema_m m.schema (middle name_m) schema_is_m refl) ∙ ap literal_front inner ∙ literal_reads schema_n n.schema (middle name_n) schema_is_n refl) in
+    (sym (literal_reads schema_m m.schema (middle name_m) schema_is_m refl) ∙ ap literal_front inner ∙ literal_reads schema_n n.schema (middle name_n) schema_is_n refl) in
     let names : name_m ≡ name_n = append_cancel_left (codes "   AND c.relname = ") name_m name_n first.1 in
     let second = same_first m.name [] n.name []
-        (sym (literal_reads name_m m.name [] name_is_m refl) ∙ ap (λ (l : List ℕ). literal_front (l ++ [])) names ∙ literal_reads name_n n.name [] name_is_n refl) in
+    (sym (literal_reads name_m m.name [] name_is_m refl) ∙ ap (λ (l : List ℕ). literal_front (l ++ [])) names ∙ literal_reads name_n n.name [] name_is_n refl) in
     ap (λ (s : List ℕ). record { schema = s; name = m.name }) first.0 ∙ ap (λ (l : List ℕ). record { schema = n.schema; name = l }) second.0

@@ -1,5 +1,6 @@
 //! A query in a block that asks for the copy of a table.
 
+ghost use Rattle.server.specs.Blocks.{AnswersUnended};
 ghost use Rattle.server.specs.Conversation.{Answered};
 ghost use Rattle.server.specs.Copies.{AnswersCopy, OpensCopy, RefusesCopy, opened};
 ghost use Rattle.std.specs.Prelude.{◌≡◌, ◌≤◌, length, true};
@@ -8,8 +9,8 @@ ghost use Rattle.server.specs.declared.copy_command.TheConstants.{MOST_COLUMNS};
 use crate::backend::Backend;
 use crate::backend_fault::BackendFault;
 use crate::block::{Block, BlockState};
-use crate::block_query::led;
-use crate::copy_command::CopyCommand;
+use crate::block_query::{go_on, led};
+use crate::copy_command::{CopyCommand, copy_of};
 use crate::copying::Copying;
 use crate::refusal::Refusal;
 use crate::say_copy::{say_opened, say_refused_in_block};
@@ -107,4 +108,25 @@ pub(crate) fn answer_copy<D: Backend>(
         }
         BlockState::Begun | BlockState::Used => open(alloc, block, query, copy, backend, out),
     }
+}
+
+/// Answers a query that doesn't end the block.
+pub(crate) fn answer_unended<D: Backend>(
+    alloc: Global,
+    block: Block,
+    query: &str,
+    backend: &mut D,
+    out: &mut BytesMut,
+) -> Result<Stage, AllocError>
+    ensures { Answered D.told result
+        (λ next asked said. AnswersUnended block query.now asked said next) backend.old out.old.items
+        backend.new out.new.items }
+{
+    let Some(copy) = copy_of(alloc, query)? else {
+        return go_on(alloc, block, query, backend, out);
+    };
+    let answered = answer_copy(alloc, block, query, &copy, backend, out);
+    // Let go before the way out, which keeps the proof short.
+    drop(copy);
+    answered
 }

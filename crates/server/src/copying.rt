@@ -48,10 +48,7 @@ fn say_next(
 }
 
 /// Where it leads to what the backend gave.
-fn after_row(
-    copying: Copying,
-    answer: &Result<Option<Items<Option<Text>>>, BackendFault>,
-) -> Stage
+fn after_row(copying: Copying, answer: &Result<Option<Items<Option<Text>>>, BackendFault>) -> Stage
     requires { copying.count < 2 ^ 64 - 1 }
     ensures { result ≡ after_row copying answer.now }
 {

@@ -7,9 +7,7 @@ use crate::stream::starting::HubStart;
 use connections::{ConnectionMailbox, RefusedCommand, ServerObserver};
 use pqformat::{Items, Text};
 use replcmd::StreamOptions;
-use server::{
-    Backend, BackendFault, FoundTable, Refusal, TableAttribute, TableColumns, TableName,
-};
+use server::{Backend, BackendFault, FoundTable, Refusal, TableAttribute, TableColumns, TableName};
 use server_state::{ServerState, columns_of, known_names, tables_of};
 use shared_log::LogName;
 use slots::SlotName;
@@ -145,11 +143,7 @@ impl<'h, L: LogName + SlotName, R: Wait + Clock, G: ServerObserver> Backend
         )
     }
 
-    fn table(
-        &mut self,
-        _schema: &str,
-        _name: &str,
-    ) -> Result<Option<FoundTable>, BackendFault> {
+    fn table(&mut self, _schema: &str, _name: &str) -> Result<Option<FoundTable>, BackendFault> {
         Err(BackendFault::NoCopies)
     }
 
