@@ -32,6 +32,35 @@ def string(text):
     return text.encode() + b"\0"
 
 
+def described(rest):
+    """RowDescription of `NAME OID SIZE`, a comma and a blank between."""
+    columns = [column.split(" ") for column in rest.split(", ")]
+    told = (string(name) + bytes(6) + int(oid).to_bytes(4, "big") + int(size).to_bytes(2, "big", signed=True) + b"\xff" * 4 + bytes(2) for name, oid, size in columns)
+    return framed(b"T", len(columns).to_bytes(2, "big") + b"".join(told))
+
+
+def data_row(rest):
+    """DataRow of values between quotes, or `null`, a comma and a blank between."""
+    values_told = rest.split(", ")
+    told = (b"\xff" * 4 if value == "null" else len(value[1:-1].encode()).to_bytes(4, "big") + value[1:-1].encode() for value in values_told)
+    return framed(b"D", len(values_told).to_bytes(2, "big") + b"".join(told))
+
+
+def copy_out(rest):
+    """CopyOutResponse of so many columns."""
+    return framed(b"H", b"\0" + int(rest).to_bytes(2, "big") + bytes(2 * int(rest)))
+
+
+def copied(rest):
+    """CopyData of a row of COPY, with `<TAB>` for a tab, or of many alike: `N times ROW`."""
+    found = re.fullmatch(r"(\d+) times (.*)", rest)
+    times, row = (int(found[1]), found[2]) if found else (1, rest)
+    return framed(b"d", row.replace("<TAB>", "\t").encode() + b"\n") * times
+
+
+TABLES = {"columns": described, "values": data_row, "copying": copy_out, "row": copied}
+
+
 def heard(line):
     """The bytes of a line of the client: `startup NAME VALUE ..`, each between quotes, `query TEXT`, or digits."""
     if line.startswith("startup"):
@@ -42,9 +71,13 @@ def heard(line):
 
 
 def said(line):
-    """The bytes of a line of the server: `greeting`, `answering`, `error CODE TEXT`, `complete TAG`, `ready`, `ready T`, `ready E`, or digits."""
+    """The bytes of a line of the server: `greeting`, `answering`, `error CODE TEXT`, `complete TAG`, `ready`, `ready T`, `ready E`, one of
+    `TABLES`, or digits."""
     if line.startswith("complete "):
         return framed(b"C", string(line.removeprefix("complete ")))
+    kind, _, rest = line.partition(" ")
+    if kind in TABLES:
+        return TABLES[kind](rest)
     if line.startswith("error "):
         _, code, text = line.split(" ", 2)
         fields = b"".join(kind + string(value) for kind, value in ((b"S", "ERROR"), (b"V", "ERROR"), (b"C", code), (b"M", text)))
@@ -80,7 +113,18 @@ def asked_of(call):
         return f"flushed {position(given[0])}{' and asks' * given[1]}"
     if kind.word == "release_snapshot":
         return kind.word
+    if kind.word in ("table", "attributes", "column_lists", "row_filters", "open_copy"):
+        return " ".join([kind.word, *map(told, given)])
     return f"{kind.word} {given[0]}"
+
+
+def told(given):
+    """What is given to a call: a text, a number, an option, or a list of texts."""
+    if isinstance(given, list):
+        return f"[{', '.join(map(told, given))}]"
+    if hasattr(given, "word"):
+        return f"{given.word}({told(given.inside[0])})" if given.inside else given.word
+    return str(given)
 
 
 def outcome(answer):

@@ -5,9 +5,13 @@ pub mod Segments
 pub mod Extending
 pub mod Passing
 pub mod Turning
+pub mod CopySteps
+pub mod RowTexts
 pub mod Quotes
+pub mod Literals
 pub mod Lists
 pub mod Slots
+pub mod TableQuestions
 pub mod Once
 pub mod Blocks
 pub mod Rows

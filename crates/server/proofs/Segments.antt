@@ -12,7 +12,7 @@ use Rattle.server.specs.declared.conversation.Event.TheVariants.{Came, AllSent}
 use Rattle.server.specs.declared.fault.ConnFault.{ConnFault}
 use Rattle.server.specs.declared.fault.ConnFault.TheVariants as faults
 use Rattle.server.specs.declared.stage.Stage.{Stage}
-use Rattle.server.specs.declared.stage.Stage.TheVariants.{Fresh, Idle, InBlock, Skipping, Streaming, Stopping, Closed}
+use Rattle.server.specs.declared.stage.Stage.TheVariants.{Fresh, Idle, InBlock, Copying, Skipping, Streaming, Stopping, Closed}
 use Rattle.server.specs.Calls.{Call, AreAsked}
 use Rattle.server.specs.Conversation.{Gave}
 use Rattle.server.specs.Turns.{Turn, IsTurn, AreTurns, Waits, HaveEnded, IsConversation, end_turn}
@@ -161,6 +161,7 @@ either (Stopping database) A B is = inl is
 either Fresh A B is = inr is
 either (Idle database) A B is = inr is
 either (InBlock block) A B is = inr is
+either (Copying copying) A B is = inr is
 either (Skipping database) A B is = inr is
 either (Streaming database) A B is = inr is
 either Closed A B is = inr is
@@ -183,6 +184,7 @@ if_stopping (Stopping database) A B is a = a
 if_stopping Fresh A B is a = absurd cc
 if_stopping (Idle database) A B is a = absurd cc
 if_stopping (InBlock block) A B is a = absurd cc
+if_stopping (Copying copying) A B is a = absurd cc
 if_stopping (Skipping database) A B is a = absurd cc
 if_stopping (Streaming database) A B is a = absurd cc
 if_stopping Closed A B is a = absurd cc
@@ -192,6 +194,7 @@ unless_stopping (Stopping database) A B other b = absurd (other refl)
 unless_stopping Fresh A B other b = b
 unless_stopping (Idle database) A B other b = b
 unless_stopping (InBlock block) A B other b = b
+unless_stopping (Copying copying) A B other b = b
 unless_stopping (Skipping database) A B other b = b
 unless_stopping (Streaming database) A B other b = b
 unless_stopping Closed A B other b = b

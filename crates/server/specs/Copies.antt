@@ -1,6 +1,6 @@
 -- COPY of a table to the client, as a subscriber asks for it in the transaction block that holds its slot's snapshot (PostgreSQL 15, COPY,
 -- 55.2.6 and 55.7): the text, the rows, and the end.
-use Rattle.std.specs.Prelude.{◌≡◌, ◌⊎◌, ℕ, ◌+◌, ◌<◌, ◌≤◌, ◌==◌, List, [], ◌∷◌, ◌++◌, length, map, replicate, Option, Some, None, Result, Ok, Err, Bool, true, false, ◌||◌, ◌&&◌, codes}
+use Rattle.std.specs.Prelude.{◌≡◌, ◌⊎◌, ℕ, ◌+◌, ◌<◌, ◌≤◌, ◌==◌, List, [], ◌∷◌, ◌++◌, length, map, replicate, Option, Some, None, Result, Ok, Err, Bool, true, false, ◌||◌, ◌&&◌, codes, if◌then◌else◌}
 use Rattle.std.specs.Char.{is_ascii_lowercase, is_ascii_digit}
 use Rattle.std.specs.Fmt.{decimal}
 use Rattle.std.specs.List.{flat_map, list_all}
@@ -25,6 +25,7 @@ use Rattle.server.specs.declared.stage.Stage.{Stage}
 use Rattle.server.specs.declared.stage.Stage.TheVariants as stages
 use Rattle.server.specs.declared.table_name.TableName.{TableName}
 use Rattle.server.specs.Calls.{Call, OpenCopy, NextRow}
+use Rattle.server.specs.Reading.{quoted_front}
 use Rattle.server.specs.RowText.{row_text}
 use Rattle.server.specs.Said.{sent_frame, completion, error_of_refusal}
 
@@ -44,6 +45,16 @@ is_bare_name (b ∷ bytes) = begins_name b && list_all goes_on_in_name bytes
 -- A name stands in quotes, or bare.
 abbrev pub SpellsName : List ℕ → List ℕ → Type 0
 SpellsName named name = (named ≡ in_quotes NAME_QUOTE name) ⊎ ((named ≡ name) × (is_bare_name name ≡ true))
+
+-- the bytes of a bare name, and what follows it
+abbrev pub name_run : List ℕ → List ℕ × List ℕ
+name_run [] = ([], [])
+name_run (b ∷ bytes) = if goes_on_in_name b then (b ∷ (name_run bytes).0, (name_run bytes).1) else ([], b ∷ bytes)
+
+-- the name at the front, and what follows it
+abbrev pub name_front : List ℕ → Option (List ℕ × List ℕ)
+name_front [] = None
+name_front (b ∷ bytes) = if b == NAME_QUOTE then quoted_front NAME_QUOTE (b ∷ bytes) else if begins_name b then Some (name_run (b ∷ bytes)) else None
 
 abbrev pub SpellsTableName : List ℕ → TableName → Type 0
 SpellsTableName named table = (schema name : List ℕ) × SpellsName schema table.schema × SpellsName name table.name × (named ≡ schema ++ (codes "." ++ name))
@@ -147,7 +158,26 @@ pub record CopiesOn (copying : Copying) (asked : List Call) (said : List ℕ) (n
   pub say : said ≡ flat_map copied_row rows ++ end_said (copying.count + length rows) end
   pub led : next ≡ after_rows copying.block (copying.count + length rows) end
 
--- where one row leads to, or the end
-abbrev pub row_led : Bool → Copying → Stage
-row_led true copying = stages.Copying copying
-row_led false copying = stages.InBlock copying.block
+-- ---- one row
+
+-- what is said of what the backend gives
+abbrev pub next_said : ℕ → Result (Option (List (Option (List ℕ)))) BackendFault → List ℕ
+next_said count (Ok (Some row)) = copied_row row
+next_said count (Ok None) = copy_ended count
+next_said count (Err fault) = refused_in_block (Asked fault)
+
+abbrev pub after_row : Copying → Result (Option (List (Option (List ℕ)))) BackendFault → Stage
+after_row copying (Ok (Some row)) = stages.Copying (record { block = copying.block; count = copying.count + 1 })
+after_row copying (Ok None) = stages.InBlock copying.block
+after_row copying (Err fault) = stages.InBlock (failed copying.block)
+
+-- a copy goes on at this stage
+abbrev pub CopiesFrom : Stage → List Call → List ℕ → Stage → Type 0
+CopiesFrom (stages.Copying copying) asked said next = CopiesOn copying asked said next
+CopiesFrom stages.Fresh asked said next = ⊥
+CopiesFrom (stages.Idle database) asked said next = ⊥
+CopiesFrom (stages.InBlock block) asked said next = ⊥
+CopiesFrom (stages.Skipping database) asked said next = ⊥
+CopiesFrom (stages.Streaming database) asked said next = ⊥
+CopiesFrom (stages.Stopping database) asked said next = ⊥
+CopiesFrom stages.Closed asked said next = ⊥

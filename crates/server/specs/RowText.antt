@@ -1,6 +1,7 @@
 -- Rows as COPY sends them (PostgreSQL 15, COPY, "Text Format"): values with a tab between, and a line feed behind.
-use Rattle.std.specs.Prelude.{ℕ, ◌≤◌, ◌==◌, List, [], ◌∷◌, ◌++◌, length, Option, Some, None, codes, if◌then◌else◌}
+use Rattle.std.specs.Prelude.{ℕ, ◌≤◌, ◌==◌, List, [], ◌∷◌, ◌++◌, length, Option, Some, None, Result, Ok, Err, codes, if◌then◌else◌}
 use Rattle.std.specs.List.{flat_map, AllByRecursion}
+use Rattle.server.specs.declared.backend_fault.BackendFault.{BackendFault}
 use Rattle.server.specs.Answers.{IsShort}
 
 -- Seven bytes are escaped: a backslash, and those from a backspace to a carriage return.
@@ -33,3 +34,8 @@ IsShortValue (Some text) = IsShort text
 
 abbrev pub AreShortValues : List (Option (List ℕ)) → Type 0
 AreShortValues values = (length values ≤ 64) × AllByRecursion IsShortValue values
+
+abbrev pub AreShortNext : Result (Option (List (Option (List ℕ)))) BackendFault → Type 0
+AreShortNext (Ok (Some row)) = AreShortValues row
+AreShortNext (Ok None) = Unit {0}
+AreShortNext (Err fault) = Unit {0}

@@ -1,10 +1,10 @@
 //! What a connection asks while it answers: the log's end, the slots, and the publications.
 
-ghost use Rattle.std.specs.Prelude.{◌<◌, ◌^◌, length, IfOk, IfSome};
+ghost use Rattle.std.specs.Prelude.{◌<◌, ◌^◌, length, IfOk};
 ghost use Rattle.std.specs.List.{AllByRecursion};
 ghost use Rattle.server.specs.Answers.{AreShortColumns, IsShort, IsShortName};
 ghost use Rattle.server.specs.TableAnswers.{AreShortAttributes, IsShortFilter, IsShortList};
-ghost use Rattle.server.specs.RowText.{AreShortValues};
+ghost use Rattle.server.specs.RowText.{AreShortNext};
 
 use crate::backend_fault::BackendFault;
 use crate::found_table::{FoundTable, TableAttribute};
@@ -75,7 +75,7 @@ pub trait Backend {
 
     /// The table of this name; None where there is none. Or it answers why it tells none, such as `Memory`.
     fn table(&mut self, schema: &str, name: &str) -> Result<Option<FoundTable>, BackendFault>
-        ensures told { told self.old (Table schema.now name.now result) self.new };
+        ensures { told self.old (Table schema.now name.now result) self.new };
 
     /// All columns of the table of this OID, in order; none where there is no such table. Or it answers why it tells none, such as
     /// `Memory`.
@@ -117,7 +117,7 @@ pub trait Backend {
     /// which is told once. Or it answers why the copy goes no further, such as `Memory`; nothing more is asked of it then.
     fn next_row(&mut self) -> Result<Option<Items<Option<Text>>>, BackendFault>
         ensures told { told self.old (NextRow result) self.new }
-        ensures short { IfOk result (λ row. IfSome row AreShortValues) };
+        ensures short { AreShortNext result };
 
     /// Drops a slot once nobody holds it; who can't wait, or not for so long, answers that it is held (`SlotInUse`, L2).
     fn drop_when_free(&mut self, slot: &str) -> Result<(), BackendFault>

@@ -2,7 +2,7 @@
 
 ghost use Rattle.std.specs.Prelude.{◌≡◌, ◌≤◌, ◌-◌, List, ℕ, None, take, true, length};
 ghost use Rattle.pqformat.specs.Putting.{Puts};
-ghost use Rattle.server.specs.Blocks.{Answers, AnswersIn, AnswersUnended, Begins, Ends, Goes, Refused, Settles, given, Says, UsesSnapshot, AnswersApart, HasShortSlot, HasShortUse, begins_block, block_after, block_begun, completed, ending_of, is_made, let_go, new_block, told_in_block};
+ghost use Rattle.server.specs.Blocks.{Answers, AnswersIn, Begins, Ends, Goes, Refused, Settles, given, Says, UsesSnapshot, AnswersApart, HasShortSlot, HasShortUse, begins_block, block_after, block_begun, completed, ending_of, is_made, let_go, new_block, told_in_block};
 ghost use Rattle.server.specs.Calls.{AreAsked};
 ghost use Rattle.server.specs.Conversation.{Answered};
 ghost use Rattle.server.specs.Turns.{HearsQuery};
@@ -10,9 +10,10 @@ ghost use Rattle.server.specs.declared.block.Block.{Block};
 
 use crate::backend::Backend;
 use crate::backend_fault::BackendFault;
-use crate::block::{Apart, Block, BlockState, Ending, begins_block, ending_of, is_error, read_apart};
-use crate::copy_command::copy_of;
-use crate::copy_query::answer_copy;
+use crate::block::{
+    Apart, Block, BlockState, Ending, begins_block, ending_of, is_error, read_apart,
+};
+use crate::copy_query::answer_unended;
 use crate::database::Database;
 use crate::refusal::Refusal;
 use crate::replying::reply_in;
@@ -52,7 +53,7 @@ fn new_block(database: Database) -> Block
 }
 
 /// Where it leads to that this was said.
-fn led(said: Result<(), AllocError>, stage: Stage) -> Result<Stage, AllocError>
+pub(crate) fn led(said: Result<(), AllocError>, stage: Stage) -> Result<Stage, AllocError>
     ensures { result ≡ given said stage }
 {
     match said {
@@ -144,14 +145,7 @@ fn use_snapshot<D: Backend>(
 {
     match block.state {
         BlockState::Begun => make_with_snapshot(alloc, block, slot, backend, plain),
-        BlockState::Used => refuse(
-            alloc,
-            query,
-            Refusal::NotFirst,
-            block.holds,
-            backend,
-            plain,
-        ),
+        BlockState::Used => refuse(alloc, query, Refusal::NotFirst, block.holds, backend, plain),
         BlockState::Failed => refuse(
             alloc,
             query,
@@ -334,7 +328,7 @@ fn settle(
 }
 
 /// Answers a query that neither ends the block nor asks for a copy.
-fn go_on<D: Backend>(
+pub(crate) fn go_on<D: Backend>(
     alloc: Global,
     block: Block,
     query: &str,
@@ -375,27 +369,6 @@ fn end<D: Backend>(
     let_go(block.holds, backend);
     let said = say_completed_ready(alloc, out, ending.tag(block.state));
     led(said, Stage::Idle(block.database))
-}
-
-/// Answers a query that doesn't end the block.
-fn answer_unended<D: Backend>(
-    alloc: Global,
-    block: Block,
-    query: &str,
-    backend: &mut D,
-    out: &mut BytesMut,
-) -> Result<Stage, AllocError>
-    ensures { Answered D.told result
-        (λ next asked said. AnswersUnended block query.now asked said next) backend.old out.old.items
-        backend.new out.new.items }
-{
-    let Some(copy) = copy_of(alloc, query)? else {
-        return go_on(alloc, block, query, backend, out);
-    };
-    let answered = answer_copy(alloc, block, query, &copy, backend, out);
-    // Let go before the way out, which keeps the proof short.
-    drop(copy);
-    answered
 }
 
 /// Answers a query in a block.

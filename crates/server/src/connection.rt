@@ -78,7 +78,8 @@ impl Connection {
     {
         match &self.stage {
             Stage::Fresh => Phase::Startup,
-            Stage::Idle(_) | Stage::InBlock(_) | Stage::Copying(_) | Stage::Skipping(_) => Phase::Idle,
+            Stage::Idle(_) | Stage::InBlock(_) | Stage::Copying(_) | Stage::Skipping(_) =>
+                Phase::Idle,
             Stage::Streaming(_) => Phase::Streaming,
             Stage::Stopping(_) => Phase::Stopping,
             Stage::Closed => Phase::Closed,

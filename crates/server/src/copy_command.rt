@@ -1,6 +1,6 @@
 //! COPY of a table to the client, as a subscriber asks for it.
 
-ghost use Rattle.std.specs.Prelude.{◌≡◌, ◌≤◌, ℕ, List, IfOk, MatchOption, length};
+ghost use Rattle.std.specs.Prelude.{◌≡◌, IfOk, MatchOption};
 ghost use Rattle.std.specs.Str.{IsUtf8};
 ghost use Rattle.pqformat.specs.Quoting.{lent_text};
 ghost use Rattle.server.specs.Copies.{SpellsCopy, name_front};

@@ -1,14 +1,16 @@
 //! A query in a block that asks for the copy of a table.
 
+ghost use Rattle.server.specs.Blocks.{AnswersUnended};
 ghost use Rattle.server.specs.Conversation.{Answered};
 ghost use Rattle.server.specs.Copies.{AnswersCopy, OpensCopy, RefusesCopy, opened};
-ghost use Rattle.std.specs.Prelude.{◌≡◌, ◌≤◌, length};
+ghost use Rattle.std.specs.Prelude.{◌≡◌, ◌≤◌, length, true};
 ghost use Rattle.server.specs.declared.copy_command.TheConstants.{MOST_COLUMNS};
 
 use crate::backend::Backend;
 use crate::backend_fault::BackendFault;
 use crate::block::{Block, BlockState};
-use crate::copy_command::CopyCommand;
+use crate::block_query::{go_on, led};
+use crate::copy_command::{CopyCommand, copy_of};
 use crate::copying::Copying;
 use crate::refusal::Refusal;
 use crate::say_copy::{say_opened, say_refused_in_block};
@@ -30,8 +32,8 @@ fn refuse_copy<D: Backend>(
         backend.new out.new.items }
 {
     backend.refused(query, refusal);
-    say_refused_in_block(alloc, out, refusal)?;
-    Ok(Stage::InBlock(block.with_state(BlockState::Failed)))
+    let said = say_refused_in_block(alloc, out, refusal);
+    led(said, Stage::InBlock(block.with_state(BlockState::Failed)))
 }
 
 /// The stage of a copy that was asked for.
@@ -45,6 +47,24 @@ fn opened(block: Block, answer: Result<(), BackendFault>) -> Stage
         }),
         Err(_) => Stage::InBlock(block.with_state(BlockState::Failed)),
     }
+}
+
+/// Begins a copy.
+fn open_held<D: Backend>(
+    alloc: Global,
+    block: Block,
+    copy: &CopyCommand,
+    backend: &mut D,
+    out: &mut BytesMut,
+) -> Result<Stage, AllocError>
+    requires { length copy.now.columns ≤ MOST_COLUMNS }
+    ensures { Answered D.told result
+        (λ next asked said. OpensCopy true block copy.now asked said next) backend.old out.old.items
+        backend.new out.new.items }
+{
+    let answer = backend.open_copy(&copy.table, &copy.columns, &copy.filter);
+    let said = say_opened(alloc, out, copy.columns.as_slice(), answer);
+    led(said, opened(block, answer))
 }
 
 /// Begins a copy, if a snapshot is held.
@@ -61,13 +81,11 @@ fn open<D: Backend>(
         (λ next asked said. OpensCopy block.holds block copy.now asked said next) backend.old
         out.old.items backend.new out.new.items }
 {
-    if !block.holds {
-        let refusal = Refusal::Asked(BackendFault::NoCopies);
-        return refuse_copy(alloc, block, query, refusal, backend, out);
+    if block.holds {
+        return open_held(alloc, block, copy, backend, out);
     }
-    let answer = backend.open_copy(&copy.table, &copy.columns, &copy.filter);
-    say_opened(alloc, out, copy.columns.as_slice(), answer)?;
-    Ok(opened(block, answer))
+    let refusal = Refusal::Asked(BackendFault::NoCopies);
+    refuse_copy(alloc, block, query, refusal, backend, out)
 }
 
 /// Answers a query that asks for a copy.
@@ -90,4 +108,25 @@ pub(crate) fn answer_copy<D: Backend>(
         }
         BlockState::Begun | BlockState::Used => open(alloc, block, query, copy, backend, out),
     }
+}
+
+/// Answers a query that doesn't end the block.
+pub(crate) fn answer_unended<D: Backend>(
+    alloc: Global,
+    block: Block,
+    query: &str,
+    backend: &mut D,
+    out: &mut BytesMut,
+) -> Result<Stage, AllocError>
+    ensures { Answered D.told result
+        (λ next asked said. AnswersUnended block query.now asked said next) backend.old out.old.items
+        backend.new out.new.items }
+{
+    let Some(copy) = copy_of(alloc, query)? else {
+        return go_on(alloc, block, query, backend, out);
+    };
+    let answered = answer_copy(alloc, block, query, &copy, backend, out);
+    // Let go before the way out, which keeps the proof short.
+    drop(copy);
+    answered
 }

@@ -1,17 +1,22 @@
 //! A copy that runs in a block: its rows, some at a time.
 
-ghost use Rattle.std.specs.Prelude.{◌≡◌, Bool, true, false};
+ghost use Rattle.std.specs.Prelude.{◌≡◌, ◌-◌, ◌<◌, ◌^◌, [], length, true, IfOk};
 ghost use Rattle.server.specs.Conversation.{Answered};
-ghost use Rattle.server.specs.Copies.{CopiesOn, row_led};
-ghost use Rattle.server.specs.Segment.{OneTurn, is_copying};
-ghost use Rattle.server.specs.declared.service.Service.{Service};
+ghost use Rattle.server.specs.Copies.{CopiesFrom, CopiesOn, after_row, next_said};
+ghost use Rattle.server.specs.RowText.{AreShortNext};
+ghost use Rattle.server.specs.Segment.{is_copying, rows_left};
+ghost use Rattle.server.specs.declared.stage.Stage.TheVariants.{Copying};
+ghost use Rattle.pqformat.specs.Putting.{Puts};
 
 use crate::backend::Backend;
+use crate::backend_fault::BackendFault;
 use crate::block::{Block, BlockState};
+use crate::block_query::led;
 use crate::refusal::Refusal;
 use crate::say_copy::{say_copy_ended, say_refused_in_block, say_row};
 use crate::stage::Stage;
 use bytes::BytesMut;
+use pqformat::{Items, Text};
 use std::alloc::{AllocError, Global};
 
 /// How many bytes of rows are added at once, but for the last row, which is added whole.
@@ -24,65 +29,89 @@ pub struct Copying {
     pub(crate) count: u64,
 }
 
-/// One row more. `AllocError` where they are more than can be counted.
-fn counted(count: u64) -> Result<u64, AllocError>
-    ensures { IfOk result (λ next. next ≡ count + 1) }
-{
-    match count.checked_add(1) {
-        Some(count) => Ok(count),
-        None => Err(AllocError),
-    }
-}
-
-/// Says the next row, or the end; whether it was a row.
-fn add_row<D: Backend>(
+/// Says what the backend gave: a row, or the end of a copy of so many rows.
+#[tactic(auto, using(pqformat::proofs::Putting::in_place))]
+fn say_next(
     alloc: Global,
-    copying: &mut Copying,
-    backend: &mut D,
     out: &mut BytesMut,
-) -> Result<bool, AllocError>
-    ensures { Answered D.told result
-        (λ more asked said. CopiesOn copying.old asked said (row_led more copying.new)) backend.old
-        out.old.items backend.new out.new.items }
+    count: u64,
+    answer: &Result<Option<Items<Option<Text>>>, BackendFault>,
+) -> Result<(), AllocError>
+    requires { AreShortNext answer.now }
+    ensures { Puts result out.old.items out.new.items (next_said count answer.now) }
 {
-    match backend.next_row() {
-        Ok(Some(row)) => {
-            say_row(alloc, out, row.as_slice())?;
-            copying.count = counted(copying.count)?;
-            Ok(true)
-        }
-        Ok(None) => {
-            say_copy_ended(alloc, out, copying.count)?;
-            Ok(false)
-        }
-        Err(fault) => {
-            say_refused_in_block(alloc, out, Refusal::Asked(fault))?;
-            copying.block.state = BlockState::Failed;
-            Ok(false)
-        }
+    match answer {
+        Ok(Some(row)) => say_row(alloc, out, row.as_slice()),
+        Ok(None) => say_copy_ended(alloc, out, count),
+        Err(fault) => say_refused_in_block(alloc, out, Refusal::Asked(*fault)),
     }
 }
 
-/// Says some rows, or all that are left and the end.
-fn add_rows<D: Backend>(
+/// Where it leads to what the backend gave.
+fn after_row(copying: Copying, answer: &Result<Option<Items<Option<Text>>>, BackendFault>) -> Stage
+    requires { copying.count < 2 ^ 64 - 1 }
+    ensures { result ≡ after_row copying answer.now }
+{
+    match answer {
+        Ok(Some(_)) => Stage::Copying(Copying {
+            block: copying.block,
+            count: copying.count + 1,
+        }),
+        Ok(None) => Stage::InBlock(copying.block),
+        Err(_) => Stage::InBlock(copying.block.with_state(BlockState::Failed)),
+    }
+}
+
+/// Says the next row, or the end.
+fn add_counted<D: Backend>(
     alloc: Global,
-    mut copying: Copying,
+    copying: Copying,
     backend: &mut D,
     out: &mut BytesMut,
 ) -> Result<Stage, AllocError>
-    ensures { Answered D.told result (λ next asked said. CopiesOn copying asked said next)
+    requires { copying.count < 2 ^ 64 - 1 }
+    ensures says { Answered D.told result (λ next asked said. CopiesOn copying asked said next)
         backend.old out.old.items backend.new out.new.items }
+    ensures less { IfOk result (λ next. rows_left next < rows_left (Copying copying)) }
+    ensures longer { IfOk result (λ _. length out.old.items < length out.new.items) }
 {
-    let until = out.len().saturating_add(MOST_ADDED_BYTES);
-    while add_row(alloc, &mut copying, backend, out)? {
-        if until <= out.len() {
-            return Ok(Stage::Copying(copying));
-        }
-    }
-    Ok(Stage::InBlock(copying.block))
+    let answer = backend.next_row();
+    let said = say_next(alloc, out, copying.count, &answer);
+    let next = after_row(copying, &answer);
+    // Let go before the way out, which keeps the proof short.
+    drop(answer);
+    led(said, next)
 }
 
-/// The turn of a copy, for which nothing has to come.
+/// The same. `AllocError` also where the rows are more than can be counted.
+fn add_row<D: Backend>(
+    alloc: Global,
+    stage: Stage,
+    backend: &mut D,
+    out: &mut BytesMut,
+) -> Result<Stage, AllocError>
+    requires { is_copying stage ≡ true }
+    ensures says { Answered D.told result (λ next asked said. CopiesFrom stage asked said next)
+        backend.old out.old.items backend.new out.new.items }
+    ensures less { IfOk result (λ next. rows_left next < rows_left stage) }
+    ensures longer { IfOk result (λ _. length out.old.items < length out.new.items) }
+{
+    match stage {
+        Stage::Copying(copying) if copying.count < u64::MAX => {
+            add_counted(alloc, copying, backend, out)
+        }
+        _ => Err(AllocError),
+    }
+}
+
+fn is_copying(stage: &Stage) -> bool
+    ensures { result ≡ is_copying stage.now }
+{
+    matches!(stage, Stage::Copying(_))
+}
+
+/// The turn of a copy, for which nothing has to come: some rows, or all that are left and the end.
+#[tactic(auto, using(crate::proofs::CopySteps::gave_further, crate::proofs::CopySteps::tried_further))]
 pub(crate) fn turn_copy<D: Backend>(
     alloc: Global,
     stage: Stage,
@@ -90,12 +119,14 @@ pub(crate) fn turn_copy<D: Backend>(
     out: &mut BytesMut,
 ) -> Result<Stage, AllocError>
     requires { is_copying stage ≡ true }
-    ensures { (service : Service) →
-        Answered D.told result (λ next asked said. OneTurn service stage [] next asked said)
+    ensures says { Answered D.told result (λ next asked said. CopiesFrom stage asked said next)
         backend.old out.old.items backend.new out.new.items }
+    ensures less { IfOk result (λ next. rows_left next < rows_left stage) }
 {
-    match stage {
-        Stage::Copying(copying) => add_rows(alloc, copying, backend, out),
-        other => Ok(other),
+    let until = out.len().saturating_add(MOST_ADDED_BYTES);
+    let mut place = add_row(alloc, stage, backend, out)?;
+    while is_copying(&place) && out.len() < until {
+        place = add_row(alloc, place, backend, out)?;
     }
+    Ok(place)
 }

@@ -65,6 +65,7 @@ pub use fault::ConnFault;
 pub use found_table::{FoundTable, TableAttribute, TableIdentity};
 pub use question::{Question, no_text_asks_two_questions, question_of};
 pub use refusal::Refusal;
+pub use row_text::no_text_is_of_two_copies;
 pub use say::{
     say_created, say_dropped, say_greeting, say_identified, say_refused, say_refused_ready,
 };

@@ -1,7 +1,7 @@
 //! Rows as COPY sends them.
 
-ghost use Rattle.std.specs.Prelude.{◌≡◌, ◌++◌, IfOk, OnOk};
-ghost use Rattle.std.specs.List.{flat_map};
+ghost use Rattle.std.specs.Prelude.{◌≡◌, ◌++◌, ℕ, List, Option, length, IfOk, OnOk};
+ghost use Rattle.std.specs.List.{flat_map, AllByRecursion};
 ghost use Rattle.server.specs.RowText.{copied_byte, copied_value, further_value, row_text};
 
 use pqformat::Text;
@@ -66,3 +66,11 @@ fn push_byte(text: &mut Vec<u8>, byte: u8) -> Result<(), AllocError>
         }
     }
 }
+
+/// The law of rows: rows of so many columns, one after the other, are told by their texts. So a null is never taken for a text.
+pub fn no_text_is_of_two_copies()
+    ensures { (columns : ℕ) (a b : List (List (Option (List ℕ)))) →
+        AllByRecursion (λ row. length row ≡ columns) a →
+        AllByRecursion (λ row. length row ≡ columns) b →
+        flat_map row_text a ≡ flat_map row_text b → a ≡ b }
+{}

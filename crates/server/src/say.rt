@@ -176,7 +176,11 @@ pub fn say_greeting(alloc: Global, out: &mut BytesMut, number: u32) -> Result<()
     say_ready(out)
 }
 
-pub(crate) fn column(alloc: Global, name: &str, data_type: ColumnType) -> Result<ColumnDescription, AllocError>
+pub(crate) fn column(
+    alloc: Global,
+    name: &str,
+    data_type: ColumnType,
+) -> Result<ColumnDescription, AllocError>
     ensures { IfOk result (λ c. c ≡ column_of data_type name.now) }
 {
     Ok(ColumnDescription {

@@ -29,7 +29,7 @@ use std::alloc::{AllocError, Global};
 pub const COPY_OUT_RESPONSE: u8 = b'H';
 
 /// The format of each column: a text.
-#[tactic(auto, using(pqformat::proofs::Putting::in_place))]
+#[tactic(auto, using(pqformat::proofs::Putting::in_place, crate::proofs::RowTexts::formats_more))]
 fn put_formats(out: &mut BytesMut, columns: &[Text]) -> Result<(), AllocError>
     ensures { Puts result out.old.items out.new.items
         (flat_map int16 (replicate (length columns.now) 0)) }

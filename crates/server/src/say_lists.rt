@@ -1,6 +1,6 @@
 //! What the server says of how a table is published: its columns, and the filters of its rows.
 
-ghost use Rattle.std.specs.Prelude.{◌≡◌, ◌≤◌, ◌^◌, ◌++◌, length, IfOk, OnOk};
+ghost use Rattle.std.specs.Prelude.{◌≡◌, ◌≤◌, ◌^◌, ◌++◌, length, string_bytes, IfOk, OnOk};
 ghost use Rattle.std.specs.Fmt.{decimal};
 ghost use Rattle.std.specs.List.{flat_map, AllByRecursion};
 ghost use Rattle.pqformat.specs.Putting.{Puts};
@@ -28,7 +28,7 @@ fn say_list_columns(alloc: Global, out: &mut BytesMut) -> Result<(), AllocError>
 
 /// The numbers after the first.
 fn push_others(text: &mut String, numbers: &[u16]) -> Result<(), AllocError>
-    ensures { OnOk result (text.new ≡ text.old ++ flat_map further_number numbers.now) }
+    ensures { OnOk result (string_bytes text.new ≡ string_bytes text.old ++ flat_map further_number numbers.now) }
 {
     for number in numbers {
         write!(text, " {number}")?;
@@ -37,7 +37,7 @@ fn push_others(text: &mut String, numbers: &[u16]) -> Result<(), AllocError>
 }
 
 fn numbers_text(alloc: Global, numbers: &[u16]) -> Result<String, AllocError>
-    ensures { IfOk result (λ text. text ≡ numbers_text numbers.now) }
+    ensures { IfOk result (λ text. string_bytes text ≡ numbers_text numbers.now) }
 {
     let mut text = String::new(alloc);
     if let Some((first, others)) = numbers.split_first() {

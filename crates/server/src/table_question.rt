@@ -46,7 +46,8 @@ fn table_of(alloc: Global, text: &[u8]) -> Result<Option<TableName>, AllocError>
         (λ found. MatchOption found ((table : TableName) → SpellsTable text.now table → ⊥)
         (λ table. SpellsTable text.now table)) }
 {
-    let front = "SELECT c.oid, c.relreplident, c.relkind  FROM pg_catalog.pg_class c  INNER JOIN pg_catalog.pg_namespace n        ON (c.relnamespace = n.oid) WHERE n.nspname = ";
+    let front =
+        "SELECT c.oid, c.relreplident, c.relkind  FROM pg_catalog.pg_class c  INNER JOIN pg_catalog.pg_namespace n        ON (c.relnamespace = n.oid) WHERE n.nspname = ";
     let Some(named) = behind(text, front) else {
         return Ok(None);
     };
@@ -70,7 +71,8 @@ fn column_lists_of(alloc: Global, text: &[u8]) -> Result<Option<(u32, Items<Text
         SpellsListed text.now (column_lists_front oid) (codes " )") names → ⊥)
         (λ x. (x.0 < 2 ^ 32) × SpellsListed text.now (column_lists_front x.0) (codes " )") x.1)) }
 {
-    let front = "SELECT DISTINCT  (CASE WHEN (array_length(gpt.attrs, 1) = c.relnatts)   THEN NULL ELSE gpt.attrs END)  FROM pg_publication p,  LATERAL pg_get_publication_tables(p.pubname) gpt,  pg_class c WHERE gpt.relid = ";
+    let front =
+        "SELECT DISTINCT  (CASE WHEN (array_length(gpt.attrs, 1) = c.relnatts)   THEN NULL ELSE gpt.attrs END)  FROM pg_publication p,  LATERAL pg_get_publication_tables(p.pubname) gpt,  pg_class c WHERE gpt.relid = ";
     let Some((oid, rest)) = number_behind(alloc, text, front)? else {
         return Ok(None);
     };
@@ -88,11 +90,13 @@ fn attributes_of(alloc: Global, text: &[u8]) -> Result<Option<u32>, AllocError>
         (λ found. MatchOption found ((oid : ℕ) → oid < 2 ^ 32 → text.now ≡ attributes_text oid → ⊥)
         (λ oid. (oid < 2 ^ 32) × (text.now ≡ attributes_text oid))) }
 {
-    let front = "SELECT a.attnum,       a.attname,       a.atttypid,       a.attnum = ANY(i.indkey)  FROM pg_catalog.pg_attribute a  LEFT JOIN pg_catalog.pg_index i       ON (i.indexrelid = pg_get_replica_identity_index(";
+    let front =
+        "SELECT a.attnum,       a.attname,       a.atttypid,       a.attnum = ANY(i.indkey)  FROM pg_catalog.pg_attribute a  LEFT JOIN pg_catalog.pg_index i       ON (i.indexrelid = pg_get_replica_identity_index(";
     let Some((oid, rest)) = number_behind(alloc, text, front)? else {
         return Ok(None);
     };
-    let middle = ")) WHERE a.attnum > 0::pg_catalog.int2   AND NOT a.attisdropped AND a.attgenerated = ''   AND a.attrelid = ";
+    let middle =
+        ")) WHERE a.attnum > 0::pg_catalog.int2   AND NOT a.attisdropped AND a.attgenerated = ''   AND a.attrelid = ";
     match number_behind(alloc, rest, middle)? {
         Some((again, end)) if again == oid && end == b" ORDER BY a.attnum".as_slice() => {
             Ok(Some(oid))
@@ -109,7 +113,8 @@ fn row_filters_of(alloc: Global, text: &[u8]) -> Result<Option<(u32, Items<Text>
         SpellsListed text.now (row_filters_front oid) (codes " )") names → ⊥)
         (λ x. (x.0 < 2 ^ 32) × SpellsListed text.now (row_filters_front x.0) (codes " )") x.1)) }
 {
-    let front = "SELECT DISTINCT pg_get_expr(gpt.qual, gpt.relid)  FROM pg_publication p,  LATERAL pg_get_publication_tables(p.pubname) gpt WHERE gpt.relid = ";
+    let front =
+        "SELECT DISTINCT pg_get_expr(gpt.qual, gpt.relid)  FROM pg_publication p,  LATERAL pg_get_publication_tables(p.pubname) gpt WHERE gpt.relid = ";
     let Some((oid, rest)) = number_behind(alloc, text, front)? else {
         return Ok(None);
     };

@@ -18,7 +18,12 @@ struct Talk {
 /// Pieces of what a client sends to the first connection of a server of this dialect, in digits, a comma after each; a dot among
 /// them ends the stream, if one stops. Adds what each was answered and the phase after it, then what the backend was asked and
 /// what was said.
-pub fn answer_talk(alloc: Global, dialect: Dialect, given: &str, answer: &mut String) -> Result<()> {
+pub fn answer_talk(
+    alloc: Global,
+    dialect: Dialect,
+    given: &str,
+    answer: &mut String,
+) -> Result<()> {
     let number = 1;
     let mut talk = Talk {
         backend: ScriptedBackend::new(alloc),

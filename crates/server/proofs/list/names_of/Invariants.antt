@@ -5,7 +5,7 @@ use Rattle.server.proofs.list.names_of.Given as goal
 
 abbrev pub invariant-loop-names : goal.invariant-loop-names
 invariant-loop-names l = record {
-  going : Going l.text l.names.items l.place;
+  going : Going l.end l.text l.names.items l.place;
   valid : IsUtf8 l.place;
 }
 
