@@ -1,11 +1,13 @@
 -- Rows that were copied are read back uniquely, and fit their frames.
-use Rattle.std.proofs.Common.{◌≡◌, ℕ, ◌+◌, ◌*◌, ◌^◌, ◌<◌, ◌≤◌, Bool, true, false, cond, eqb, List, [], ◌∷◌, ◌++◌, length, Option, Some, None, refl, sym, ap, subst, ◌∙◌, inl, inr, append_assoc, append-nil, arith}
+use Rattle.std.proofs.Common.{zero, suc, ◌≡◌, ℕ, ◌+◌, ◌*◌, ◌^◌, ◌<◌, ◌≤◌, Bool, true, false, cond, eqb, List, [], ◌∷◌, ◌++◌, length, Option, Some, None, refl, sym, ap, subst, ◌∙◌, inl, inr, append_assoc, append-nil, arith}
 use Rattle.std.specs.Prelude.{◌≢◌, ◌⊎◌, codes, replicate}
 use Rattle.std.specs.List.{flat_map, AllByRecursion}
 use Rattle.std.proofs.lemmas.Bool.{eqb-true}
 use Rattle.std.proofs.lemmas.Grind.{flat_map-append, replicate_next}
 use Rattle.pqformat.specs.Fields.{int16}
-use Rattle.std.proofs.lemmas.List.{length-append}
+use Rattle.std.proofs.lemmas.List.{length-append, length-replicate}
+use Rattle.frames.specs.Plain.{copy_both}
+use Rattle.pqformat.proofs.Numbers.{length-int16}
 use Rattle.std.proofs.lemmas.List.Concat.{flat_map-cons}
 use Rattle.server.specs.RowText.{AreShortValues, IsShortValue, copied_byte, copied_value, further_value, row_text}
 
@@ -34,7 +36,7 @@ coded : (b : ℕ) → IsEscaped b ⊎ IsPlain b
 coded b = by_backslash (eqb b 92) refl
   where
     not_it : (n : ℕ) → eqb b n ≡ false → b ≢ n
-    not_it n no is = let yes : eqb b n ≡ true = subst (λ (m : ℕ). eqb m n ≡ true) (sym is) (eq-self n) in absurd cc
+    not_it n other is = let yes : eqb b n ≡ true = subst (λ (m : ℕ). eqb m n ≡ true) (sym is) (eq-self n) in absurd cc
       where
         eq-self : (m : ℕ) → eqb m m ≡ true
         eq-self m = grind arith
@@ -112,7 +114,7 @@ text_once : (t u x y : List ℕ) → Closes x → Closes y → flat_map copied_b
 text_once [] [] x y end_x end_y e = (refl, e)
 text_once [] (b ∷ u) x y end_x end_y e = absurd (ended x y b u end_x e)
 text_once (a ∷ t) [] x y end_x end_y e = absurd (ended y x a t end_y (sym e))
-text_once (a ∷ t) (b ∷ u) x y end_x end_y e = by_codes (coded a) (coded b)
+text_once (a ∷ t) (b ∷ u) x y end_x end_y e = by_codes (λ rest. text_once t u x y end_x end_y rest) (coded a) (coded b)
   where
     left : List ℕ
     left = flat_map copied_byte t ++ x
@@ -123,26 +125,26 @@ text_once (a ∷ t) (b ∷ u) x y end_x end_y e = by_codes (coded a) (coded b)
     all : copied_byte a ++ left ≡ copied_byte b ++ right
     all = sym (spelled a t x) ∙ e ∙ spelled b u y
 
-    joined : a ≡ b → left ≡ right → (a ∷ t ≡ b ∷ u) × (x ≡ y)
-    joined same rest =
-        let more = text_once t u x y end_x end_y rest in
+    joined : (left ≡ right → (t ≡ u) × (x ≡ y)) → a ≡ b → left ≡ right → (a ∷ t ≡ b ∷ u) × (x ≡ y)
+    joined more_of same rest =
+        let more = more_of rest in
         (ap (λ (n : ℕ). n ∷ t) same ∙ ap (λ (l : List ℕ). b ∷ l) more.0, more.1)
 
-    by_codes : IsEscaped a ⊎ IsPlain a → IsEscaped b ⊎ IsPlain b → (a ∷ t ≡ b ∷ u) × (x ≡ y)
-    by_codes (inl p) (inl q) =
+    by_codes : (left ≡ right → (t ≡ u) × (x ≡ y)) → IsEscaped a ⊎ IsPlain a → IsEscaped b ⊎ IsPlain b → (a ∷ t ≡ b ∷ u) × (x ≡ y)
+    by_codes more_of (inl p) (inl q) =
         let whole : 92 ∷ p.letter ∷ left ≡ 92 ∷ q.letter ∷ right = ap (λ (l : List ℕ). l ++ left) (sym p.coded) ∙ all ∙ ap (λ (l : List ℕ). l ++ right) q.coded in
         let behind = head_of p.letter q.letter left right (head_of 92 92 (p.letter ∷ left) (q.letter ∷ right) whole).1 in
-        joined (sym p.means ∙ ap meant behind.0 ∙ q.means) behind.1
-    by_codes (inl p) (inr q) =
+        joined more_of (sym p.means ∙ ap meant behind.0 ∙ q.means) behind.1
+    by_codes more_of (inl p) (inr q) =
         let whole : 92 ∷ p.letter ∷ left ≡ b ∷ right = ap (λ (l : List ℕ). l ++ left) (sym p.coded) ∙ all ∙ ap (λ (l : List ℕ). l ++ right) q.coded in
         absurd (q.no_backslash (sym (head_of 92 b (p.letter ∷ left) right whole).0))
-    by_codes (inr p) (inl q) =
+    by_codes more_of (inr p) (inl q) =
         let whole : a ∷ left ≡ 92 ∷ q.letter ∷ right = ap (λ (l : List ℕ). l ++ left) (sym p.coded) ∙ all ∙ ap (λ (l : List ℕ). l ++ right) q.coded in
         absurd (p.no_backslash (head_of a 92 left (q.letter ∷ right) whole).0)
-    by_codes (inr p) (inr q) =
+    by_codes more_of (inr p) (inr q) =
         let whole : a ∷ left ≡ b ∷ right = ap (λ (l : List ℕ). l ++ left) (sym p.coded) ∙ all ∙ ap (λ (l : List ℕ). l ++ right) q.coded in
         let behind = head_of a b left right whole in
-        joined behind.0 behind.1
+        joined more_of behind.0 behind.1
 
 -- A null isn't taken for a text.
 null_apart : (u x y : List ℕ) → Closes y → 92 ∷ 78 ∷ x ≡ flat_map copied_byte u ++ y → ⊥
@@ -257,3 +259,15 @@ row_fits (v ∷ values) short =
 
 pub formats_more : (i : ℕ) → flat_map int16 (replicate (i + 1) 0) ≡ flat_map int16 (replicate i 0) ++ int16 0
 formats_more i = ap (flat_map int16) (replicate_next i 0) ∙ flat_map-append int16 (replicate i 0) (0 ∷ []) ∙ ap (λ (l : List ℕ). flat_map int16 (replicate i 0) ++ l) (append-nil (int16 0))
+
+formats_size : (count : ℕ) → length (flat_map int16 (replicate count 0)) ≡ 2 * count
+formats_size count = by_count count
+  where
+    by_count : (n : ℕ) → length (flat_map int16 (replicate n 0)) ≡ 2 * n
+    by_count zero = refl
+    by_count (suc n) = omega (arith, by_count n, ap length (formats_more n), length-append (flat_map int16 (replicate n 0)) (int16 0), length-int16 0)
+
+-- how long the frame is that tells of so many columns
+pub formats_length : (count : ℕ) → 4 + length (copy_both (record { format = 0; formats = replicate count 0 })) ≡ 7 + 2 * count
+formats_length count =
+    omega (arith, formats_size count, length-replicate count 0, length-int16 (length (replicate count 0)), length-append (int16 (length (replicate count 0))) (flat_map int16 (replicate count 0)))
