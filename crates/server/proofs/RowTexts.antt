@@ -33,6 +33,7 @@ record IsPlain (b : ℕ) : Type 0 where
   no_feed : b ≢ 10
 
 coded : (b : ℕ) → IsEscaped b ⊎ IsPlain b
+unfolding meant
 coded b = by_backslash (eqb b 92) refl
   where
     not_it : (n : ℕ) → eqb b n ≡ false → b ≢ n
@@ -48,31 +49,31 @@ coded b = by_backslash (eqb b 92) refl
     plain a c d e f g h = record { coded = rw (a, c, d, e, f, g, h) refl; no_backslash = not_it 92 a; no_tab = not_it 9 d; no_feed = not_it 10 e }
 
     by_return : (t : Bool) → eqb b 13 ≡ t → eqb b 92 ≡ false → eqb b 8 ≡ false → eqb b 9 ≡ false → eqb b 10 ≡ false → eqb b 11 ≡ false → eqb b 12 ≡ false → IsEscaped b ⊎ IsPlain b
-    by_return true is a c d e f g = inl (escaped 13 114 is refl refl (λ x. absurd cc))
+    by_return true is a c d e f g = inl (escaped 13 114 is refl refl (λ x. omega (arith, x)))
     by_return false is a c d e f g = inr (plain a c d e f g is)
 
     by_form : (t : Bool) → eqb b 12 ≡ t → eqb b 92 ≡ false → eqb b 8 ≡ false → eqb b 9 ≡ false → eqb b 10 ≡ false → eqb b 11 ≡ false → IsEscaped b ⊎ IsPlain b
-    by_form true is a c d e f = inl (escaped 12 102 is refl refl (λ x. absurd cc))
+    by_form true is a c d e f = inl (escaped 12 102 is refl refl (λ x. omega (arith, x)))
     by_form false is a c d e f = by_return (eqb b 13) refl a c d e f is
 
     by_vertical : (t : Bool) → eqb b 11 ≡ t → eqb b 92 ≡ false → eqb b 8 ≡ false → eqb b 9 ≡ false → eqb b 10 ≡ false → IsEscaped b ⊎ IsPlain b
-    by_vertical true is a c d e = inl (escaped 11 118 is refl refl (λ x. absurd cc))
+    by_vertical true is a c d e = inl (escaped 11 118 is refl refl (λ x. omega (arith, x)))
     by_vertical false is a c d e = by_form (eqb b 12) refl a c d e is
 
     by_feed : (t : Bool) → eqb b 10 ≡ t → eqb b 92 ≡ false → eqb b 8 ≡ false → eqb b 9 ≡ false → IsEscaped b ⊎ IsPlain b
-    by_feed true is a c d = inl (escaped 10 110 is refl refl (λ x. absurd cc))
+    by_feed true is a c d = inl (escaped 10 110 is refl refl (λ x. omega (arith, x)))
     by_feed false is a c d = by_vertical (eqb b 11) refl a c d is
 
     by_tab : (t : Bool) → eqb b 9 ≡ t → eqb b 92 ≡ false → eqb b 8 ≡ false → IsEscaped b ⊎ IsPlain b
-    by_tab true is a c = inl (escaped 9 116 is refl refl (λ x. absurd cc))
+    by_tab true is a c = inl (escaped 9 116 is refl refl (λ x. omega (arith, x)))
     by_tab false is a c = by_feed (eqb b 10) refl a c is
 
     by_back : (t : Bool) → eqb b 8 ≡ t → eqb b 92 ≡ false → IsEscaped b ⊎ IsPlain b
-    by_back true is a = inl (escaped 8 98 is refl refl (λ x. absurd cc))
+    by_back true is a = inl (escaped 8 98 is refl refl (λ x. omega (arith, x)))
     by_back false is a = by_tab (eqb b 9) refl a is
 
     by_backslash : (t : Bool) → eqb b 92 ≡ t → IsEscaped b ⊎ IsPlain b
-    by_backslash true is = inl (escaped 92 92 is refl refl (λ x. absurd cc))
+    by_backslash true is = inl (escaped 92 92 is refl refl (λ x. omega (arith, x)))
     by_backslash false is = by_back (eqb b 8) refl is
 
 -- ---- values
@@ -261,11 +262,10 @@ pub formats_more : (i : ℕ) → flat_map int16 (replicate (i + 1) 0) ≡ flat_m
 formats_more i = ap (flat_map int16) (replicate_next i 0) ∙ flat_map-append int16 (replicate i 0) (0 ∷ []) ∙ ap (λ (l : List ℕ). flat_map int16 (replicate i 0) ++ l) (append-nil (int16 0))
 
 formats_size : (count : ℕ) → length (flat_map int16 (replicate count 0)) ≡ 2 * count
-formats_size count = by_count count
-  where
-    by_count : (n : ℕ) → length (flat_map int16 (replicate n 0)) ≡ 2 * n
-    by_count zero = refl
-    by_count (suc n) = omega (arith, by_count n, ap length (formats_more n), length-append (flat_map int16 (replicate n 0)) (int16 0), length-int16 0)
+formats_size zero = refl
+formats_size (suc n) =
+    let next : suc n ≡ n + 1 = omega arith in
+    rw next (omega (arith, formats_size n, ap length (formats_more n), length-append (flat_map int16 (replicate n 0)) (int16 0), length-int16 0))
 
 -- how long the frame is that tells of so many columns
 pub formats_length : (count : ℕ) → 4 + length (copy_both (record { format = 0; formats = replicate count 0 })) ≡ 7 + 2 * count
