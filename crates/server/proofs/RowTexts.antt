@@ -1,11 +1,13 @@
 -- Rows that were copied are read back uniquely, and fit their frames.
-use Rattle.std.proofs.Common.{◌≡◌, ℕ, ◌+◌, ◌*◌, ◌^◌, ◌<◌, ◌≤◌, Bool, true, false, cond, eqb, List, [], ◌∷◌, ◌++◌, length, Option, Some, None, refl, sym, ap, subst, ◌∙◌, inl, inr, append_assoc, append-nil, arith}
+use Rattle.std.proofs.Common.{zero, suc, ◌≡◌, ℕ, ◌+◌, ◌*◌, ◌^◌, ◌<◌, ◌≤◌, Bool, true, false, cond, eqb, List, [], ◌∷◌, ◌++◌, length, Option, Some, None, refl, sym, ap, subst, ◌∙◌, inl, inr, append_assoc, append-nil, arith}
 use Rattle.std.specs.Prelude.{◌≢◌, ◌⊎◌, codes, replicate}
 use Rattle.std.specs.List.{flat_map, AllByRecursion}
 use Rattle.std.proofs.lemmas.Bool.{eqb-true}
 use Rattle.std.proofs.lemmas.Grind.{flat_map-append, replicate_next}
 use Rattle.pqformat.specs.Fields.{int16}
-use Rattle.std.proofs.lemmas.List.{length-append}
+use Rattle.std.proofs.lemmas.List.{length-append, length-replicate}
+use Rattle.frames.specs.Plain.{copy_both}
+use Rattle.pqformat.proofs.Numbers.{length-int16}
 use Rattle.std.proofs.lemmas.List.Concat.{flat_map-cons}
 use Rattle.server.specs.RowText.{AreShortValues, IsShortValue, copied_byte, copied_value, further_value, row_text}
 
@@ -31,10 +33,11 @@ record IsPlain (b : ℕ) : Type 0 where
   no_feed : b ≢ 10
 
 coded : (b : ℕ) → IsEscaped b ⊎ IsPlain b
+unfolding meant
 coded b = by_backslash (eqb b 92) refl
   where
     not_it : (n : ℕ) → eqb b n ≡ false → b ≢ n
-    not_it n no is = let yes : eqb b n ≡ true = subst (λ (m : ℕ). eqb m n ≡ true) (sym is) (eq-self n) in absurd cc
+    not_it n other is = let yes : eqb b n ≡ true = subst (λ (m : ℕ). eqb m n ≡ true) (sym is) (eq-self n) in absurd cc
       where
         eq-self : (m : ℕ) → eqb m m ≡ true
         eq-self m = grind arith
@@ -46,31 +49,31 @@ coded b = by_backslash (eqb b 92) refl
     plain a c d e f g h = record { coded = rw (a, c, d, e, f, g, h) refl; no_backslash = not_it 92 a; no_tab = not_it 9 d; no_feed = not_it 10 e }
 
     by_return : (t : Bool) → eqb b 13 ≡ t → eqb b 92 ≡ false → eqb b 8 ≡ false → eqb b 9 ≡ false → eqb b 10 ≡ false → eqb b 11 ≡ false → eqb b 12 ≡ false → IsEscaped b ⊎ IsPlain b
-    by_return true is a c d e f g = inl (escaped 13 114 is refl refl (λ x. absurd cc))
+    by_return true is a c d e f g = inl (escaped 13 114 is refl refl (λ x. omega (arith, x)))
     by_return false is a c d e f g = inr (plain a c d e f g is)
 
     by_form : (t : Bool) → eqb b 12 ≡ t → eqb b 92 ≡ false → eqb b 8 ≡ false → eqb b 9 ≡ false → eqb b 10 ≡ false → eqb b 11 ≡ false → IsEscaped b ⊎ IsPlain b
-    by_form true is a c d e f = inl (escaped 12 102 is refl refl (λ x. absurd cc))
+    by_form true is a c d e f = inl (escaped 12 102 is refl refl (λ x. omega (arith, x)))
     by_form false is a c d e f = by_return (eqb b 13) refl a c d e f is
 
     by_vertical : (t : Bool) → eqb b 11 ≡ t → eqb b 92 ≡ false → eqb b 8 ≡ false → eqb b 9 ≡ false → eqb b 10 ≡ false → IsEscaped b ⊎ IsPlain b
-    by_vertical true is a c d e = inl (escaped 11 118 is refl refl (λ x. absurd cc))
+    by_vertical true is a c d e = inl (escaped 11 118 is refl refl (λ x. omega (arith, x)))
     by_vertical false is a c d e = by_form (eqb b 12) refl a c d e is
 
     by_feed : (t : Bool) → eqb b 10 ≡ t → eqb b 92 ≡ false → eqb b 8 ≡ false → eqb b 9 ≡ false → IsEscaped b ⊎ IsPlain b
-    by_feed true is a c d = inl (escaped 10 110 is refl refl (λ x. absurd cc))
+    by_feed true is a c d = inl (escaped 10 110 is refl refl (λ x. omega (arith, x)))
     by_feed false is a c d = by_vertical (eqb b 11) refl a c d is
 
     by_tab : (t : Bool) → eqb b 9 ≡ t → eqb b 92 ≡ false → eqb b 8 ≡ false → IsEscaped b ⊎ IsPlain b
-    by_tab true is a c = inl (escaped 9 116 is refl refl (λ x. absurd cc))
+    by_tab true is a c = inl (escaped 9 116 is refl refl (λ x. omega (arith, x)))
     by_tab false is a c = by_feed (eqb b 10) refl a c is
 
     by_back : (t : Bool) → eqb b 8 ≡ t → eqb b 92 ≡ false → IsEscaped b ⊎ IsPlain b
-    by_back true is a = inl (escaped 8 98 is refl refl (λ x. absurd cc))
+    by_back true is a = inl (escaped 8 98 is refl refl (λ x. omega (arith, x)))
     by_back false is a = by_tab (eqb b 9) refl a is
 
     by_backslash : (t : Bool) → eqb b 92 ≡ t → IsEscaped b ⊎ IsPlain b
-    by_backslash true is = inl (escaped 92 92 is refl refl (λ x. absurd cc))
+    by_backslash true is = inl (escaped 92 92 is refl refl (λ x. omega (arith, x)))
     by_backslash false is = by_back (eqb b 8) refl is
 
 -- ---- values
@@ -112,7 +115,7 @@ text_once : (t u x y : List ℕ) → Closes x → Closes y → flat_map copied_b
 text_once [] [] x y end_x end_y e = (refl, e)
 text_once [] (b ∷ u) x y end_x end_y e = absurd (ended x y b u end_x e)
 text_once (a ∷ t) [] x y end_x end_y e = absurd (ended y x a t end_y (sym e))
-text_once (a ∷ t) (b ∷ u) x y end_x end_y e = by_codes (coded a) (coded b)
+text_once (a ∷ t) (b ∷ u) x y end_x end_y e = by_codes (λ rest. text_once t u x y end_x end_y rest) (coded a) (coded b)
   where
     left : List ℕ
     left = flat_map copied_byte t ++ x
@@ -123,26 +126,26 @@ text_once (a ∷ t) (b ∷ u) x y end_x end_y e = by_codes (coded a) (coded b)
     all : copied_byte a ++ left ≡ copied_byte b ++ right
     all = sym (spelled a t x) ∙ e ∙ spelled b u y
 
-    joined : a ≡ b → left ≡ right → (a ∷ t ≡ b ∷ u) × (x ≡ y)
-    joined same rest =
-        let more = text_once t u x y end_x end_y rest in
+    joined : (left ≡ right → (t ≡ u) × (x ≡ y)) → a ≡ b → left ≡ right → (a ∷ t ≡ b ∷ u) × (x ≡ y)
+    joined more_of same rest =
+        let more = more_of rest in
         (ap (λ (n : ℕ). n ∷ t) same ∙ ap (λ (l : List ℕ). b ∷ l) more.0, more.1)
 
-    by_codes : IsEscaped a ⊎ IsPlain a → IsEscaped b ⊎ IsPlain b → (a ∷ t ≡ b ∷ u) × (x ≡ y)
-    by_codes (inl p) (inl q) =
+    by_codes : (left ≡ right → (t ≡ u) × (x ≡ y)) → IsEscaped a ⊎ IsPlain a → IsEscaped b ⊎ IsPlain b → (a ∷ t ≡ b ∷ u) × (x ≡ y)
+    by_codes more_of (inl p) (inl q) =
         let whole : 92 ∷ p.letter ∷ left ≡ 92 ∷ q.letter ∷ right = ap (λ (l : List ℕ). l ++ left) (sym p.coded) ∙ all ∙ ap (λ (l : List ℕ). l ++ right) q.coded in
         let behind = head_of p.letter q.letter left right (head_of 92 92 (p.letter ∷ left) (q.letter ∷ right) whole).1 in
-        joined (sym p.means ∙ ap meant behind.0 ∙ q.means) behind.1
-    by_codes (inl p) (inr q) =
+        joined more_of (sym p.means ∙ ap meant behind.0 ∙ q.means) behind.1
+    by_codes more_of (inl p) (inr q) =
         let whole : 92 ∷ p.letter ∷ left ≡ b ∷ right = ap (λ (l : List ℕ). l ++ left) (sym p.coded) ∙ all ∙ ap (λ (l : List ℕ). l ++ right) q.coded in
         absurd (q.no_backslash (sym (head_of 92 b (p.letter ∷ left) right whole).0))
-    by_codes (inr p) (inl q) =
+    by_codes more_of (inr p) (inl q) =
         let whole : a ∷ left ≡ 92 ∷ q.letter ∷ right = ap (λ (l : List ℕ). l ++ left) (sym p.coded) ∙ all ∙ ap (λ (l : List ℕ). l ++ right) q.coded in
         absurd (p.no_backslash (head_of a 92 left (q.letter ∷ right) whole).0)
-    by_codes (inr p) (inr q) =
+    by_codes more_of (inr p) (inr q) =
         let whole : a ∷ left ≡ b ∷ right = ap (λ (l : List ℕ). l ++ left) (sym p.coded) ∙ all ∙ ap (λ (l : List ℕ). l ++ right) q.coded in
         let behind = head_of a b left right whole in
-        joined behind.0 behind.1
+        joined more_of behind.0 behind.1
 
 -- A null isn't taken for a text.
 null_apart : (u x y : List ℕ) → Closes y → 92 ∷ 78 ∷ x ≡ flat_map copied_byte u ++ y → ⊥
@@ -257,3 +260,14 @@ row_fits (v ∷ values) short =
 
 pub formats_more : (i : ℕ) → flat_map int16 (replicate (i + 1) 0) ≡ flat_map int16 (replicate i 0) ++ int16 0
 formats_more i = ap (flat_map int16) (replicate_next i 0) ∙ flat_map-append int16 (replicate i 0) (0 ∷ []) ∙ ap (λ (l : List ℕ). flat_map int16 (replicate i 0) ++ l) (append-nil (int16 0))
+
+formats_size : (count : ℕ) → length (flat_map int16 (replicate count 0)) ≡ 2 * count
+formats_size zero = refl
+formats_size (suc n) =
+    let next : suc n ≡ n + 1 = omega arith in
+    rw next (omega (arith, formats_size n, ap length (formats_more n), length-append (flat_map int16 (replicate n 0)) (int16 0), length-int16 0))
+
+-- how long the frame is that tells of so many columns
+pub formats_length : (count : ℕ) → 4 + length (copy_both (record { format = 0; formats = replicate count 0 })) ≡ 7 + 2 * count
+formats_length count =
+    omega (arith, formats_size count, length-replicate count 0, length-int16 (length (replicate count 0)), length-append (int16 (length (replicate count 0))) (flat_map int16 (replicate count 0)))

@@ -1,5 +1,6 @@
 -- The rows of answers fit their frames.
-use Rattle.std.proofs.Common.{◌+◌, ◌*◌, ◌^◌, ◌<◌, ◌≤◌, List, [], ◌∷◌, length, ap, arith}
+use Rattle.std.proofs.Common.{◌+◌, ◌*◌, ◌^◌, ◌<◌, ◌≤◌, List, [], ◌∷◌, length, Result, Ok, Err, ℕ, ◌≡◌, ◌++◌, ap, sym, ◌∙◌, append-nil, append_assoc, arith}
+use Rattle.std.specs.Prelude.{IfOk}
 use Rattle.std.specs.List.{flat_map, AllByRecursion}
 use Rattle.std.proofs.lemmas.List.{length-append}
 use Rattle.std.proofs.lemmas.List.Concat.{flat_map-cons}
@@ -11,6 +12,8 @@ use Rattle.frames.specs.RowDescription.{column}
 use Rattle.frames.specs.DataRow.{data_value, FitsValue}
 use Rattle.frames.proofs.Lengths.{length_column, length_value, length_counted}
 use Rattle.server.specs.Said.{IsSmall}
+use Rattle.server.specs.TableAnswers.{attribute_row, attribute_rows}
+use Rattle.server.specs.declared.found_table.TableAttribute.{TableAttribute}
 
 short_columns : (columns : List ColumnDescription) → AllByRecursion (λ c. length c.name ≤ 63) columns → length (flat_map column columns) ≤ 82 * length columns
 short_columns [] short = omega arith
@@ -39,3 +42,19 @@ fits (Bytes bytes) small = omega (arith, small)
 pub all_fit : (values : List DataValue) → AllByRecursion IsSmall values → AllByRecursion FitsValue values
 all_fit [] small = tt
 all_fit (v ∷ values) small = (fits v small.0, all_fit values small.1)
+
+-- what holds anyway, holds of what a call gives
+pub always_ok : {A E : Type 0} (r : Result A E) (Fact : Type 0) → Fact → IfOk r (λ _. Fact)
+always_ok (Ok a) Fact fact = fact
+always_ok (Err e) Fact fact = tt
+
+-- the rows of columns up to the next one
+pub attributes_more : (number : ℕ) (xs : List TableAttribute) (x : TableAttribute) → attribute_rows number (xs ++ x ∷ []) ≡ attribute_rows number xs ++ attribute_row (number + length xs) x
+attributes_more number [] x = append-nil (attribute_row number x) ∙ ap (λ (n : ℕ). attribute_row n x) (zero_more number)
+  where
+    zero_more : (n : ℕ) → n ≡ n + 0
+    zero_more n = omega arith
+attributes_more number (y ∷ ys) x =
+    ap (λ (l : List ℕ). attribute_row number y ++ l) (attributes_more (number + 1) ys x)
+    ∙ sym (append_assoc (attribute_row number y) (attribute_rows (number + 1) ys) (attribute_row (number + 1 + length ys) x))
+    ∙ ap (λ (n : ℕ). (attribute_row number y ++ attribute_rows (number + 1) ys) ++ attribute_row n x) (omega arith)

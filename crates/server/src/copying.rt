@@ -5,7 +5,6 @@ ghost use Rattle.server.specs.Conversation.{Answered};
 ghost use Rattle.server.specs.Copies.{CopiesFrom, CopiesOn, after_row, next_said};
 ghost use Rattle.server.specs.RowText.{AreShortNext};
 ghost use Rattle.server.specs.Segment.{is_copying, rows_left};
-ghost use Rattle.server.specs.declared.stage.Stage.TheVariants.{Copying};
 ghost use Rattle.pqformat.specs.Putting.{Puts};
 
 use crate::backend::Backend;
@@ -72,7 +71,7 @@ fn add_counted<D: Backend>(
     requires { copying.count < 2 ^ 64 - 1 }
     ensures says { Answered D.told result (λ next asked said. CopiesOn copying asked said next)
         backend.old out.old.items backend.new out.new.items }
-    ensures less { IfOk result (λ next. rows_left next < rows_left (Copying copying)) }
+    ensures less { IfOk result (λ next. rows_left next < rows_left (Stage.Copying copying)) }
     ensures longer { IfOk result (λ _. length out.old.items < length out.new.items) }
 {
     let answer = backend.next_row();

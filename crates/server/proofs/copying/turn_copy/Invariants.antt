@@ -4,11 +4,11 @@ use Rattle.server.specs.Copies.{CopiesFrom}
 use Rattle.server.specs.Segment.{rows_left}
 use Rattle.server.proofs.copying.turn_copy.Given as goal
 
-abbrev pub invariant-loop-place : goal.invariant-loop-place
-invariant-loop-place g l = record {
+abbrev pub invariant-loop-out : goal.invariant-loop-out
+invariant-loop-out g l = record {
   so_far : Gave g.D.Backend.told (λ asked said. CopiesFrom l.fn.stage asked said l.place) l.fn.backend l.fn.out.items l.backend l.out.items;
   less : rows_left l.place < rows_left l.fn.stage;
 }
 
-abbrev pub decreases-loop-place : goal.decreases-loop-place
-decreases-loop-place g l = l.until - length l.out.items
+abbrev pub decreases-loop-out : goal.decreases-loop-out
+decreases-loop-out g l = l.until - length l.out.items
