@@ -10,21 +10,29 @@ mod following;
 
 use anyhow::{Context, Error, Result};
 use cache::Cache;
-use follower::Options;
+use command_line::{address_of, count_of};
+use follower::{FollowerHost, Options};
 use following::follow;
+use std::alloc::Global;
 use std::env;
-use std::net::SocketAddr;
+use std::io::Print;
+
+const USAGE: &str = "usage: cache_service ADDR SLOT PUBLICATIONS COUNT";
 
 fn main(rt: HostRuntime) -> Result<()> {
     let alloc = rt.alloc();
     let words: Vec<String> = env::args(&rt)?.skip(1).collect(alloc)?;
-    let [address, slot, publications, count] = words.as_slice() else {
-        return Err(Error::msg("usage: cache_service ADDR SLOT PUBLICATIONS COUNT"));
+    keep_cache(&rt, alloc, words.as_slice())
+}
+
+fn keep_cache<R: FollowerHost + Print>(rt: &R, alloc: Global, words: &[String]) -> Result<()> {
+    let [address, slot, publications, count] = words else {
+        return Err(Error::msg(USAGE));
     };
-    let address = address.as_str().parse::<SocketAddr>().context("ADDR")?;
+    let address = address_of(address.as_str())?;
     let mut options = Options::new(slot.as_str(), publications.as_str());
-    options.count = count.as_str().parse::<u32>().context("COUNT")?;
+    options.count = count_of(count.as_str()).context(USAGE)?;
     let mut cache = Cache::new(alloc);
-    follow(&rt, alloc, address, &options, &mut cache)?;
-    cache.print(&rt)
+    follow(rt, address, &options, &mut cache)?;
+    cache.print(rt)
 }
