@@ -47,18 +47,16 @@ impl Cache {
 
     fn change(&mut self, change: &Change<'_>) -> Result<(), AllocError> {
         match change {
-            Change::Insert(row) => self.put(row, &[]),
+            Change::Insert(row) => self.put(row, &[])?,
             Change::Update(old, new) => {
                 let before = self.take(old.as_ref().unwrap_or(new))?;
-                self.put(new, before.as_slice())
+                self.put(new, before.as_slice())?;
             }
-            Change::Delete(row) => self.take(row).map(drop),
-            Change::Truncate(oids) => {
-                self.rows.retain(|key, _| !oids.contains(&key.0));
-                Ok(())
-            }
-            Change::Message(_) => Ok(()),
+            Change::Delete(row) => drop(self.take(row)?),
+            Change::Truncate(oids) => self.rows.retain(|key, _| !oids.contains(&key.0)),
+            Change::Message(_) => {}
         }
+        Ok(())
     }
 
     /// Puts a row in, in the place of one with the values before.

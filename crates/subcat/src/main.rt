@@ -27,15 +27,21 @@ use printout::Printout;
 use replcmd::parse_position;
 use std::alloc::Global;
 use std::io::{BufWriter, Write};
-use std::net::{SocketAddr, TcpStream};
+use std::net::{Net, SocketAddr, TcpListener, TcpStream};
 use std::process::ExitCode;
+use std::random::RandomSource;
+use std::sync::Wait;
+use std::time::Clock;
 
 fn main(rt: HostRuntime) -> ExitCode {
     ended(&rt, run(&rt, &rt))
 }
 
 /// The runtime has the words and the output, and `net` the socket.
-fn run<N: FollowerHost>(rt: &HostRuntime, net: &N) -> Result<(), Fault> {
+fn run<N: Net<Listener = TcpListener, Stream = TcpStream> + Wait + Clock + RandomSource>(
+    rt: &HostRuntime,
+    net: &N,
+) -> Result<(), Fault> {
     let arguments = arguments_of(rt)?;
     run_called(rt, net, arguments.as_slice())
 }
