@@ -19,7 +19,7 @@ mod system_file;
 use command::{Words, words_of};
 use command_line::{address_of, arguments_of, count_of, ended};
 use fault::Fault;
-use follower::{FollowerHost, Form, Options, follow};
+use follower::{Form, Options, follow};
 use keeping::{keep_in, keep_printing};
 use password::{password_of, user_of};
 use password_file::Place;
@@ -46,7 +46,7 @@ fn run<N: Net<Listener = TcpListener, Stream = TcpStream> + Wait + Clock + Rando
     run_called(rt, net, arguments.as_slice())
 }
 
-fn run_called<N: FollowerHost>(
+fn run_called<N: Net<Listener = TcpListener, Stream = TcpStream> + Wait + Clock + RandomSource>(
     rt: &HostRuntime,
     net: &N,
     arguments: &[String],
@@ -68,7 +68,7 @@ fn run_called<N: FollowerHost>(
     }
 }
 
-fn follow_at<N: FollowerHost>(
+fn follow_at<N: Net<Listener = TcpListener, Stream = TcpStream> + Wait + Clock + RandomSource>(
     rt: &HostRuntime,
     net: &N,
     address: SocketAddr,
@@ -78,7 +78,10 @@ fn follow_at<N: FollowerHost>(
     follow_into(net, rt.alloc(), address, options, &mut output)
 }
 
-fn follow_into<N: FollowerHost, W: Write>(
+fn follow_into<
+    N: Net<Listener = TcpListener, Stream = TcpStream> + Wait + Clock + RandomSource,
+    W: Write,
+>(
     net: &N,
     alloc: Global,
     address: SocketAddr,
