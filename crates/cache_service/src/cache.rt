@@ -13,7 +13,7 @@ type Values = Vec<Option<String>>;
 /// sent again, and then the key isn't known.
 #[derive(Drop)]
 pub struct Cache {
-    alloc: Global,
+    pub alloc: Global,
     /// By the OID of the table and the values of the key.
     rows: BTreeMap<(u32, Values), Values>,
     /// The system that is followed, once it is known.
@@ -47,24 +47,22 @@ impl Cache {
 
     fn change(&mut self, change: &Change<'_>) -> Result<(), AllocError> {
         match change {
-            Change::Insert(row) => self.put(row, &[]),
+            Change::Insert(row) => self.put(row, &[])?,
             Change::Update(old, new) => {
                 let before = self.take(old.as_ref().unwrap_or(new))?;
-                self.put(new, before.as_slice())
+                self.put(new, before.as_slice())?;
             }
-            Change::Delete(row) => self.take(row).map(drop),
-            Change::Truncate(oids) => {
-                self.rows.retain(|key, _| !oids.contains(&key.0));
-                Ok(())
-            }
-            Change::Message(_) => Ok(()),
+            Change::Delete(row) => drop(self.take(row)?),
+            Change::Truncate(oids) => self.rows.retain(|key, _| !oids.contains(&key.0)),
+            Change::Message(_) => {}
         }
+        Ok(())
     }
 
     /// Puts a row in, in the place of one with the values before.
     fn put(&mut self, row: &Row<'_>, before: &[Option<String>]) -> Result<(), AllocError> {
         let values = row.values(self.alloc, before)?;
-        let key = key_of(self.alloc, row, values.as_slice())?;
+        let key = self.key(row, values.as_slice())?;
         self.rows.insert(key, values)?;
         Ok(())
     }
@@ -72,8 +70,19 @@ impl Cache {
     /// Takes the row of this key out, and answers its values.
     fn take(&mut self, row: &Row<'_>) -> Result<Values, AllocError> {
         let values = row.values(self.alloc, &[])?;
-        let key = key_of(self.alloc, row, values.as_slice())?;
+        let key = self.key(row, values.as_slice())?;
         Ok(self.rows.remove(&key).unwrap_or(Vec::new(self.alloc)))
+    }
+
+    /// The table of a row, and those of its values that are of the key.
+    fn key(&self, row: &Row<'_>, values: &[Option<String>]) -> Result<(u32, Values), AllocError> {
+        let mut key = Vec::new(self.alloc);
+        for (column, value) in row.table().columns.as_slice().iter().zip(values) {
+            if column.is_key {
+                key.push(value.clone()?)?;
+            }
+        }
+        Ok((row.table().oid, key))
     }
 
     /// Prints each row on a line, after the OID of its table.
@@ -83,18 +92,4 @@ impl Cache {
         }
         Ok(())
     }
-}
-
-fn key_of(
-    alloc: Global,
-    row: &Row<'_>,
-    values: &[Option<String>],
-) -> Result<(u32, Values), AllocError> {
-    let mut key = Vec::new(alloc);
-    for (column, value) in row.table().columns.as_slice().iter().zip(values) {
-        if column.is_key {
-            key.push(value.clone()?)?;
-        }
-    }
-    Ok((row.table().oid, key))
 }

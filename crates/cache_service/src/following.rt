@@ -2,7 +2,6 @@
 
 use crate::cache::Cache;
 use follower::{FollowFault, Follower, FollowerHost, Options, Pauses, connect};
-use std::alloc::Global;
 use std::net::SocketAddr;
 use std::thread;
 use std::time::Duration;
@@ -10,7 +9,6 @@ use std::time::Duration;
 /// Applies the transactions, over one connection after the other. Faults as of `Follower`, where they aren't passing ones.
 pub fn follow<R: FollowerHost>(
     rt: &R,
-    alloc: Global,
     address: SocketAddr,
     options: &Options<'_>,
     cache: &mut Cache,
@@ -18,7 +16,7 @@ pub fn follow<R: FollowerHost>(
     let mut pauses = Pauses::new();
     for _ in rt.forever() {
         let stood = cache.position;
-        match follow_once(rt, alloc, address, options, cache) {
+        match follow_once(rt, address, options, cache) {
             Err(fault) if fault.is_passing() => {}
             ended => return ended,
         }
@@ -31,18 +29,20 @@ pub fn follow<R: FollowerHost>(
 /// Over one connection, from where the cache is. The slot is created the first time: what one that is created later has missed is lost.
 fn follow_once<R: FollowerHost>(
     rt: &R,
-    alloc: Global,
     address: SocketAddr,
     options: &Options<'_>,
     cache: &mut Cache,
 ) -> Result<(), FollowFault> {
     let left = options.count.saturating_sub(cache.transactions);
-    let mut options = *options;
-    options.position = cache.position;
-    options.system = cache.system.as_ref().map(|system| system.as_str());
-    options.create = options.system.is_none();
-    let mut follower = Follower::new(rt, alloc, connect(rt, address)?, &options)?;
-    cache.system = Some(follower.system().to_string(alloc)?);
+    let system = cache.system.as_ref().map(|system| system.as_str());
+    let options = Options {
+        create: system.is_none(),
+        position: cache.position,
+        system,
+        ..*options
+    };
+    let mut follower = Follower::new(rt, cache.alloc, connect(rt, address)?, &options)?;
+    cache.system = Some(follower.system().to_string(cache.alloc)?);
     for _ in 0..left {
         let transaction = follower.next(rt)?.ok_or(FollowFault::Ended)?;
         cache.apply(&transaction)?;

@@ -8,23 +8,33 @@
 mod cache;
 mod following;
 
-use anyhow::{Context, Error, Result};
+use anyhow::{Context, Result, bail};
 use cache::Cache;
+use command_line::{address_of, arguments_of, count_of};
 use follower::Options;
 use following::follow;
-use std::env;
-use std::net::SocketAddr;
+use std::alloc::Global;
+use std::io::Print;
+use std::net::{Net, TcpListener, TcpStream};
+use std::random::RandomSource;
+use std::sync::Wait;
+use std::time::Clock;
 
 fn main(rt: HostRuntime) -> Result<()> {
-    let alloc = rt.alloc();
-    let words: Vec<String> = env::args(&rt)?.skip(1).collect(alloc)?;
-    let [address, slot, publications, count] = words.as_slice() else {
-        return Err(Error::msg("usage: cache_service ADDR SLOT PUBLICATIONS COUNT"));
+    let words = arguments_of(&rt)?;
+    keep_cache(&rt, rt.alloc(), words.as_slice())
+}
+
+fn keep_cache<R>(rt: &R, alloc: Global, words: &[String]) -> Result<()>
+where
+    R: Net<Listener = TcpListener, Stream = TcpStream> + Wait + Clock + RandomSource + Print,
+{
+    let [_, address, slot, publications, count] = words else {
+        bail!("usage: cache_service ADDR SLOT PUBLICATIONS COUNT");
     };
-    let address = address.as_str().parse::<SocketAddr>().context("ADDR")?;
     let mut options = Options::new(slot.as_str(), publications.as_str());
-    options.count = count.as_str().parse::<u32>().context("COUNT")?;
+    options.count = count_of(count.as_str()).context("COUNT is a number without a sign")?;
     let mut cache = Cache::new(alloc);
-    follow(&rt, alloc, address, &options, &mut cache)?;
-    cache.print(&rt)
+    follow(rt, address_of(address.as_str())?, &options, &mut cache)?;
+    cache.print(rt)
 }

@@ -1,10 +1,13 @@
 //! Two followers, each with a slot of its own.
 
-use follower::{FollowFault, FollowerHost, Options, Subscription, connect, resume};
+use follower::{FollowFault, Options, Subscription, resume};
 use hub::ServerHost;
 use std::alloc::Global;
-use std::net::SocketAddr;
+use std::net::{Net, SocketAddr, TcpListener, TcpStream};
+use std::random::RandomSource;
+use std::sync::Wait;
 use std::thread;
+use std::time::Clock;
 
 /// What the followers got, a line each message.
 #[derive(Drop)]
@@ -42,9 +45,9 @@ fn follow_one<R>(
     options: &Options<'_>,
 ) -> Result<Vec<u8>, FollowFault>
 where
-    R: FollowerHost,
+    R: Net<Listener = TcpListener, Stream = TcpStream> + Wait + Clock + RandomSource,
 {
-    let mut socket = connect(rt, address)?;
+    let mut socket = TcpStream::connect(rt, address).map_err(FollowFault::Connection)?;
     let mut subscription = Subscription::new(alloc, options);
     let mut lines = Vec::new(alloc);
     resume(

@@ -3,21 +3,22 @@
 use crate::fault::Fault;
 use crate::journal::Journal;
 use crate::printout::Printout;
-use follower::{
-    FollowFault, FollowerHost, Options, Output, Pauses, ResumePoint, Subscription, connect, resume,
-};
+use follower::{FollowFault, Options, Output, Pauses, ResumePoint, Subscription, resume};
 use std::alloc::Global;
-use std::net::SocketAddr;
+use std::net::{Net, SocketAddr, TcpListener, TcpStream};
+use std::random::RandomSource;
+use std::sync::Wait;
 use std::thread;
-use std::time::Duration;
+use std::time::{Clock, Duration};
+
+/// For how many seconds a read waits. Then the server is asked whether it is there, and after as many more it is lost, as
+/// PostgreSQL's wal_receiver_timeout has it unless it is set (PostgreSQL 15, 20.6.3).
+const PATIENCE: u64 = 30;
 
 /// Follows into the standard output. `Follow` where a fault isn't a passing one.
-pub fn keep_printing<N: FollowerHost>(
-    rt: &HostRuntime,
-    net: &N,
-    address: SocketAddr,
-    options: &Options,
-) -> Result<(), Fault> {
+pub fn keep_printing<
+    N: Net<Listener = TcpListener, Stream = TcpStream> + Wait + Clock + RandomSource,
+>(rt: &HostRuntime, net: &N, address: SocketAddr, options: &Options) -> Result<(), Fault> {
     let mut subscription = Subscription::new(rt.alloc(), options);
     let mut output = Printout::new(rt);
     keep_following(rt, net, address, options, &mut subscription, &mut output)
@@ -25,7 +26,7 @@ pub fn keep_printing<N: FollowerHost>(
 
 /// Follows into a file, from where it ends. What it holds counts. Faults as of `Journal::open` and `Journal::system`, then as of
 /// `keep_printing`.
-pub fn keep_in<N: FollowerHost>(
+pub fn keep_in<N: Net<Listener = TcpListener, Stream = TcpStream> + Wait + Clock + RandomSource>(
     rt: &HostRuntime,
     net: &N,
     address: SocketAddr,
@@ -40,7 +41,10 @@ pub fn keep_in<N: FollowerHost>(
 
 /// Goes on after what the output holds, over one connection after the other, until all is printed. Each that was lost is told, with
 /// the pause after it.
-fn keep_following<N: FollowerHost, W: Output>(
+fn keep_following<
+    N: Net<Listener = TcpListener, Stream = TcpStream> + Wait + Clock + RandomSource,
+    W: Output,
+>(
     rt: &HostRuntime,
     net: &N,
     address: SocketAddr,
@@ -65,7 +69,10 @@ fn keep_following<N: FollowerHost, W: Output>(
     unreachable!()
 }
 
-fn follow_once<N: FollowerHost, W: Output>(
+fn follow_once<
+    N: Net<Listener = TcpListener, Stream = TcpStream> + Wait + Clock + RandomSource,
+    W: Output,
+>(
     net: &N,
     alloc: Global,
     address: SocketAddr,
@@ -73,6 +80,9 @@ fn follow_once<N: FollowerHost, W: Output>(
     subscription: &mut Subscription,
     output: &mut W,
 ) -> Result<(), FollowFault> {
-    let mut socket = connect(net, address)?;
+    let mut socket = TcpStream::connect(net, address).map_err(FollowFault::Connection)?;
+    let patience = Some(Duration::from_secs(PATIENCE));
+    let limited = socket.set_read_timeout(patience);
+    limited.map_err(FollowFault::Connection)?;
     resume(net, alloc, &mut socket, options, subscription, output)
 }

@@ -19,7 +19,7 @@ mod system_file;
 use command::{Words, words_of};
 use command_line::{address_of, arguments_of, count_of, ended};
 use fault::Fault;
-use follower::{FollowerHost, Form, Options, follow};
+use follower::{Form, Options, follow};
 use keeping::{keep_in, keep_printing};
 use password::{password_of, user_of};
 use password_file::Place;
@@ -27,20 +27,26 @@ use printout::Printout;
 use replcmd::parse_position;
 use std::alloc::Global;
 use std::io::{BufWriter, Write};
-use std::net::{SocketAddr, TcpStream};
+use std::net::{Net, SocketAddr, TcpListener, TcpStream};
 use std::process::ExitCode;
+use std::random::RandomSource;
+use std::sync::Wait;
+use std::time::Clock;
 
 fn main(rt: HostRuntime) -> ExitCode {
     ended(&rt, run(&rt, &rt))
 }
 
 /// The runtime has the words and the output, and `net` the socket.
-fn run<N: FollowerHost>(rt: &HostRuntime, net: &N) -> Result<(), Fault> {
+fn run<N: Net<Listener = TcpListener, Stream = TcpStream> + Wait + Clock + RandomSource>(
+    rt: &HostRuntime,
+    net: &N,
+) -> Result<(), Fault> {
     let arguments = arguments_of(rt)?;
     run_called(rt, net, arguments.as_slice())
 }
 
-fn run_called<N: FollowerHost>(
+fn run_called<N: Net<Listener = TcpListener, Stream = TcpStream> + Wait + Clock + RandomSource>(
     rt: &HostRuntime,
     net: &N,
     arguments: &[String],
@@ -62,7 +68,7 @@ fn run_called<N: FollowerHost>(
     }
 }
 
-fn follow_at<N: FollowerHost>(
+fn follow_at<N: Net<Listener = TcpListener, Stream = TcpStream> + Wait + Clock + RandomSource>(
     rt: &HostRuntime,
     net: &N,
     address: SocketAddr,
@@ -72,7 +78,10 @@ fn follow_at<N: FollowerHost>(
     follow_into(net, rt.alloc(), address, options, &mut output)
 }
 
-fn follow_into<N: FollowerHost, W: Write>(
+fn follow_into<
+    N: Net<Listener = TcpListener, Stream = TcpStream> + Wait + Clock + RandomSource,
+    W: Write,
+>(
     net: &N,
     alloc: Global,
     address: SocketAddr,
