@@ -10,8 +10,6 @@ mod beside;
 #[cfg(test)]
 mod drain_calls;
 #[cfg(test)]
-mod follower;
-#[cfg(test)]
 mod gated;
 #[cfg(test)]
 mod giving_calls;
@@ -21,6 +19,8 @@ mod hub_fixture;
 mod load_calls;
 #[cfg(test)]
 mod log_fixture;
+#[cfg(test)]
+mod log_reading;
 #[cfg(test)]
 mod peer;
 #[cfg(test)]
