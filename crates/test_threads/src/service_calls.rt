@@ -2,7 +2,8 @@
 
 use follower::{Change, FollowFault, Follower, Options, Transaction};
 use hub::{
-    Hub, HubBuilder, HubName, NewMember, NewPublication, NewTable, Service, field, with_hub,
+    ChangeFault, EndFault, Hub, HubBuilder, HubName, NewMember, NewPublication, NewTable, Service,
+    SessionFault, field, with_hub,
 };
 use std::alloc::Global;
 use std::net::{Net, SocketAddr, TcpListener, TcpStream};
@@ -11,17 +12,33 @@ use std::sync::Wait;
 use std::test::Fail;
 use std::thread;
 use std::time::Clock;
+use thiserror::Error;
 
 const TABLE: &str = "public.item";
+
+/// Why a service's work isn't done.
+#[derive(Debug, Drop, Error)]
+enum WorkFault {
+    #[error("{0}")]
+    Change(#[from] ChangeFault),
+    #[error("{0}")]
+    Session(#[from] SessionFault),
+    #[error("{0}")]
+    End(#[from] EndFault),
+    #[error("a row has no such column")]
+    UnknownColumn,
+    #[error("the row isn't what it was changed to")]
+    OtherRow,
+}
 
 /// Commits a row and its change, and aborts a transaction whose second row has no such column.
 #[derive(Drop)]
 struct Writes {}
 
 impl Service for Writes {
-    type Output = Result<(), Fail>;
+    type Output = Result<(), WorkFault>;
 
-    fn run<L: HubName, R: Wait + Clock>(self, rt: &R, hub: &Hub<L>) -> Result<(), Fail> {
+    fn run<L: HubName, R: Wait + Clock>(self, rt: &R, hub: &Hub<L>) -> Result<(), WorkFault> {
         hub.await_streams(rt, 1);
         let mut tx = hub.transaction(rt)?;
         let written = write_row(&mut tx);
@@ -29,23 +46,25 @@ impl Service for Writes {
         let mut tx = hub.transaction(rt)?;
         let written = write_wrong_row(&mut tx);
         match tx.end(written) {
-            Ok(()) => Err(Fail::new("a row has no such column")),
+            Ok(()) => Err(WorkFault::UnknownColumn),
             Err(_) => Ok(()),
         }
     }
 }
 
-fn write_row<L: HubName, R: Wait>(tx: &mut hub::Transaction<'_, L, R>) -> Result<(), Fail> {
+fn write_row<L: HubName, R: Wait>(tx: &mut hub::Transaction<'_, L, R>) -> Result<(), WorkFault> {
     let (id, name) = (field("id", 1), field("name", "ab"));
     tx.insert(TABLE, &[name, id])?;
     tx.update(TABLE, &[id], &[id, name, field("qty", 7i64)])?;
     match tx.get(TABLE, &[id])?.and_then(|row| row.int8("qty")) {
         Some(7) => Ok(()),
-        _ => Err(Fail::new("the row isn't what it was changed to")),
+        _ => Err(WorkFault::OtherRow),
     }
 }
 
-fn write_wrong_row<L: HubName, R: Wait>(tx: &mut hub::Transaction<'_, L, R>) -> Result<(), Fail> {
+fn write_wrong_row<L: HubName, R: Wait>(
+    tx: &mut hub::Transaction<'_, L, R>,
+) -> Result<(), WorkFault> {
     tx.insert(TABLE, &[field("id", 2)])?;
     tx.insert(TABLE, &[field("id", 3), field("size", 7)])?;
     Ok(())
