@@ -26,8 +26,6 @@ mod peer;
 #[cfg(test)]
 mod receipt_calls;
 #[cfg(test)]
-mod service_calls;
-#[cfg(test)]
 mod slot_calls;
 #[cfg(test)]
 mod snapshot_calls;
