@@ -22,8 +22,6 @@ TABLES = [
 ]
 LENGTHS = 0, 1, 5, 200, 1999, 2001, 3900
 SLOT = "s"
-# Of the refusal of an initial copy.
-REASON = "initial copies are not served: use WITH (copy_data = false)"
 
 
 class Rows:
@@ -160,21 +158,13 @@ def commands(postgres, server, rows):
     return wrong + ["the slot is there still"] * dropped.startswith("ok")
 
 
-def copied(postgres, connection):
-    """What is wrong with an initial copy: it has to fail, and say why."""
-    postgres.ask(f"CREATE SUBSCRIPTION c CONNECTION '{connection}' PUBLICATION p")
-    wrong = ["the initial copy fails without its reason"] * (not comes(lambda: REASON in postgres.log.read_text()))
-    postgres.ask("ALTER SUBSCRIPTION c DISABLE", "DROP SUBSCRIPTION c")
-    return wrong
-
-
 def run(pubd, seed):
     rows = Rows(seed)
     with Cluster() as postgres, Driven(pubd) as server:
         connection = f"host=127.0.0.1 port={server.port} user=u dbname=app"
         postgres.ask(*TABLES, f"CREATE SUBSCRIPTION {SLOT} CONNECTION '{connection}' PUBLICATION p, t WITH (copy_data = false)")
         wrong = filled(postgres, server, rows) or clocks(postgres) or commands(postgres, server, rows)
-        return wrong + copied(postgres, connection) + server.end()
+        return wrong + server.end()
 
 
 def main():

@@ -34,8 +34,8 @@ def answer(columns, rows, tag):
     return b"".join(frames) + completed(tag)
 
 
-def completed(tag):
-    return frame(b"C", tag.encode() + b"\0") + frame(b"Z", b"I")
+def completed(tag, state=b"I"):
+    return frame(b"C", tag.encode() + b"\0") + frame(b"Z", state)
 
 
 ANSWERED = [
@@ -103,7 +103,7 @@ def said_to(client, text):
 
 
 def questions_are_answered_where_they_may_be(pubd, subcat):
-    """And the beginning of an initial copy is refused."""
+    """And a block in which something is refused ends as one that is undone, but for its slot."""
     wrong = []
     with Server(pubd, 1, more=ON) as server:
         client = Connection(server.port)
@@ -111,17 +111,26 @@ def questions_are_answered_where_they_may_be(pubd, subcat):
         for text, due in ANSWERED + ANSWERED_LATER:
             got = said_to(client, text)
             wrong += [f"{text!r} is answered by {got}, and not by {due}"] * (got != due)
-        wrong += wrong_texts(client, [("SHOW work_mem", NO_SUCH, 'unrecognized configuration parameter "work_mem"')])
-        for _ in range(2):
-            wrong += wrong_texts(client, [(COPY, UNSUPPORTED, "initial copies are not served: use WITH (copy_data = false)")])
+        unknown = ("SHOW work_mem", NO_SUCH, 'unrecognized configuration parameter "work_mem"')
+        wrong += wrong_texts(client, [unknown])
         copy_slot = "pg_16394_sync_16386_7000000000000000001"
-        wrong += wrong_texts(client, [(f"DROP_REPLICATION_SLOT {copy_slot}", "42704", f'replication slot "{copy_slot}" does not exist')])
+        got = said_to(client, COPY)
+        wrong += [f"{COPY!r} is answered by {got}"] * (got != completed("BEGIN", b"T"))
+        kinds = [kind for kind, _ in client.ask(f"CREATE_REPLICATION_SLOT \"{copy_slot}\" LOGICAL pgoutput (SNAPSHOT 'use')")]
+        wrong += [f"the slot of a copy is answered by {kinds}"] * (kinds != [b"T", b"D", b"C", b"Z"])
+        wrong += wrong_texts(client, [unknown, (MODE, "25P02", "current transaction is aborted, commands ignored until its end")], b"E")
+        got = said_to(client, "COMMIT")
+        wrong += [f"COMMIT is answered by {got}"] * (got != completed("ROLLBACK"))
+        drop = f"DROP_REPLICATION_SLOT {copy_slot}"
+        wrong += ["the slot of a copy isn't dropped"] * (code_for(client, drop) is not None)
+        wrong += wrong_texts(client, [(drop, "42704", f'replication slot "{copy_slot}" does not exist')])
         wrong += ["a slot isn't dropped"] * (code_for(client, "DROP_REPLICATION_SLOT s") != "42704")
         client.create("s")
         got = said_to(client, BARE_DROP)
         wrong += [f"{BARE_DROP!r} is answered by {got}"] * (got != completed("DROP_REPLICATION_SLOT"))
         client.close()
-        told = ["unrecognized configuration parameter", "initial copies are not served: use WITH (copy_data = false)", "DROP_REPLICATION_SLOT of slot s: L1: the slot does not exist"]
+        told = ["unrecognized configuration parameter"] * 2
+        told += ["current transaction is aborted, commands ignored until its end", "DROP_REPLICATION_SLOT of slot s: L1: the slot does not exist"]
         return wrong + server.end(ended=[f"pubd: connection 1: {each}" for each in told])
 
 
@@ -145,15 +154,15 @@ def shown(text):
     return text.replace("'", "\\'").replace("\n", "\\n")
 
 
-def wrong_texts(client, due):
-    """What is wrong where these have to be refused by this code and this text."""
+def wrong_texts(client, due, state=b"I"):
+    """What is wrong where these have to be refused by this code and this text, and leave this state."""
     wrong = []
     for text, code, words in due:
         asked = text.encode() + b"\0"
         client.socket.sendall(frame(b"Q", asked))
         got = dict((field[:1], field[1:].decode()) for field in client.frame()[1].split(b"\0") if field)
         wrong += [f"{text!r} is refused by {got}"] * ((got[b"C"], got[b"M"]) != (code, words))
-        wrong += ["no ReadyForQuery comes"] * (client.frame() != (b"Z", b"I"))
+        wrong += ["no ReadyForQuery comes"] * (client.frame() != (b"Z", state))
     return wrong
 
 

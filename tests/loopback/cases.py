@@ -30,6 +30,7 @@ from caching import (
 from clocks import a_client_sees_clocks_of_its_own_time, a_follower_tells_the_time_whatever_its_server_tells
 from closing import an_acknowledgement_holds_over_a_blocked_write, an_acknowledgement_holds_over_a_close
 from connection import STARTUP, Connection, Refused, keepalive, refusal_of_one_more, status
+from copying import a_copy_and_its_stream_have_each_row_once, what_cannot_be_copied_is_refused
 from crowds import sixteen_clients_at_sixteen_slots, sixteen_streams_tell_the_same_of_eight_scripts
 from driving import (
     a_bad_line_is_answered_like_any_other,
@@ -447,6 +448,8 @@ ALL = [
     a_stream_takes_no_extended_query,
     a_stream_tells_where_it_is,
     a_start_ahead_of_its_slot_is_refused,
+    a_copy_and_its_stream_have_each_row_once,
+    what_cannot_be_copied_is_refused,
     a_client_sees_clocks_of_its_own_time,
     a_follower_tells_the_time_whatever_its_server_tells,
     nothing_is_lost_with_connections,

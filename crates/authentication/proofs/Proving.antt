@@ -1,20 +1,20 @@
 -- A user is let in only by a right proof: what holds at each stage, turn by turn.
 use Rattle.std.proofs.Common.{◌≡◌, ℕ, Bool, true, false, cond, List, [], ◌∷◌, ◌++◌, Option, Some, None, Result, Ok, Err, refl, sym, ap, subst, ◌∙◌, inl, inr}
 use Rattle.std.specs.Prelude.{nat_lt, length, codes}
-use Rattle.frames.specs.declared.parameter.Parameter.{Parameter}
-use Rattle.frames.specs.declared.startup.Startup.{Startup}
-use Rattle.frames.specs.declared.startup.Startup.TheVariants.{Session, Ssl, Gss, Cancel}
+use Rattle.frames.specs.declared.frontend.parameter.Parameter.{Parameter}
+use Rattle.frames.specs.declared.frontend.startup.Startup.{Startup}
+use Rattle.frames.specs.declared.frontend.startup.Startup.TheVariants.{Session, Ssl, Gss, Cancel}
 use Rattle.frames.specs.Startup.{SpellsStartup}
 use Rattle.scram.specs.Attributes.{◌>>=◌}
-use Rattle.scram.specs.declared.account.Account.{Account}
+use Rattle.scram.specs.declared.server_side.account.Account.{Account}
 use Rattle.scram.specs.declared.fault.ExchangeFault.{ExchangeFault}
 use Rattle.scram.specs.declared.fault.ExchangeFault.TheVariants.{Password}
-use Rattle.scram.specs.declared.login.Asked.{Asked as Question}
-use Rattle.scram.specs.declared.login.Login.{Login}
-use Rattle.scram.specs.declared.login.Login.TheVariants.{Offered, Chosen, Challenged}
-use Rattle.scram.specs.declared.login.Reply.{Reply}
-use Rattle.scram.specs.declared.login.Reply.TheVariants.{Continue, Final}
-use Rattle.scram.specs.declared.server_exchange.Exchange.{Exchange}
+use Rattle.scram.specs.declared.server_side.login.Asked.{Asked as Question}
+use Rattle.scram.specs.declared.server_side.login.Login.{Login}
+use Rattle.scram.specs.declared.server_side.login.Login.TheVariants.{Offered, Chosen, Challenged}
+use Rattle.scram.specs.declared.server_side.login.Reply.{Reply}
+use Rattle.scram.specs.declared.server_side.login.Reply.TheVariants.{Continue, Final}
+use Rattle.scram.specs.declared.server_side.server_exchange.Exchange.{Exchange}
 use Rattle.scram.specs.ClientFirst.{client_first_of}
 use Rattle.scram.specs.Exchanges.{HasProved, begun, challenge, verdict}
 use Rattle.scram.proofs.Proved.{verdict_right}

@@ -7,7 +7,7 @@ use Rattle.pqformat.specs.Fields.{int32}
 use Rattle.pqformat.proofs.Numbers.{length-int32}
 use Rattle.frames.specs.declared.fault.FrameFault.{FrameFault}
 use Rattle.frames.specs.declared.fault.FrameFault.TheVariants.{Memory}
-use Rattle.frames.specs.declared.startup.Startup.{Startup}
+use Rattle.frames.specs.declared.frontend.startup.Startup.{Startup}
 use Rattle.frames.specs.Frame.{Gives, frame}
 use Rattle.frames.specs.Startup.{SpellsStartup, framed_startup, startup_number, startup_body}
 use Rattle.scram.specs.Logins.{answer_to}

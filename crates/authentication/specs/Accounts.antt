@@ -2,7 +2,7 @@
 use Rattle.std.specs.Prelude.{◌≡◌, ℕ, Bool, true, false, List, [], ◌∷◌, Option, Some, None, if◌then◌else◌}
 use Rattle.std.specs.Str.{bytes_eq}
 use Rattle.scram.specs.Exchanges.{unknown_salt}
-use Rattle.scram.specs.declared.account.Account.{Account}
+use Rattle.scram.specs.declared.server_side.account.Account.{Account}
 use Rattle.authentication.specs.declared.users.User.{User}
 use Rattle.authentication.specs.declared.users.Users.{Users}
 

@@ -3,7 +3,7 @@ use Rattle.std.specs.Prelude.{◌≡◌, ℕ, Bool, true, false, List, [], ◌++
 use Rattle.server.specs.declared.connection.Connection.{Connection}
 use Rattle.server.specs.declared.connection.Phase.{Phase}
 use Rattle.server.specs.declared.connection.Phase.TheVariants as phases
-use Rattle.server.specs.declared.stage.Stage.{Stage as Opened}
+use Rattle.server.specs.declared.stages.stage.Stage.{Stage as Opened}
 use Rattle.server.specs.Segment.{phase_of}
 use Rattle.authentication.specs.declared.guarded_connection.Guard.{Guard}
 use Rattle.authentication.specs.declared.guarded_connection.GuardedConnection.{GuardedConnection}

@@ -3,18 +3,18 @@ use Rattle.std.specs.Prelude.{◌≡◌, ℕ, ◌+◌, ◌<◌, ◌≤◌, ◌�
 use Rattle.std.specs.declared.alloc.AllocError.{AllocError}
 use Rattle.pqformat.specs.Putting.{Extends}
 use Rattle.frames.specs.declared.fault.FrameFault.{FrameFault}
-use Rattle.frames.specs.declared.startup.Startup.{Startup}
-use Rattle.frames.specs.declared.startup.Startup.TheVariants.{Session, Ssl, Gss, Cancel}
-use Rattle.frames.specs.declared.parameter.Parameter.{Parameter}
+use Rattle.frames.specs.declared.frontend.startup.Startup.{Startup}
+use Rattle.frames.specs.declared.frontend.startup.Startup.TheVariants.{Session, Ssl, Gss, Cancel}
+use Rattle.frames.specs.declared.frontend.parameter.Parameter.{Parameter}
 use Rattle.frames.specs.Frame.{frame}
 use Rattle.frames.specs.Startup.{SpellsStartup, framed_startup}
-use Rattle.scram.specs.declared.account.Account.{Account}
+use Rattle.scram.specs.declared.server_side.account.Account.{Account}
 use Rattle.scram.specs.declared.fault.ExchangeFault.{ExchangeFault}
-use Rattle.scram.specs.declared.login.Login.{Login}
-use Rattle.scram.specs.declared.login.Login.TheVariants.{Offered}
-use Rattle.scram.specs.declared.login.Reply.{Reply}
-use Rattle.scram.specs.declared.login.Reply.TheVariants.{Continue, Final}
-use Rattle.scram.specs.declared.server_exchange.Exchange.{Exchange}
+use Rattle.scram.specs.declared.server_side.login.Login.{Login}
+use Rattle.scram.specs.declared.server_side.login.Login.TheVariants.{Offered}
+use Rattle.scram.specs.declared.server_side.login.Reply.{Reply}
+use Rattle.scram.specs.declared.server_side.login.Reply.TheVariants.{Continue, Final}
+use Rattle.scram.specs.declared.server_side.server_exchange.Exchange.{Exchange}
 use Rattle.scram.specs.Exchanges.{HasProved}
 use Rattle.scram.specs.Logins.{answer_to}
 use Rattle.server.specs.Opening.{value_of}

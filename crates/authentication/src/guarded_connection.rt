@@ -2,8 +2,8 @@
 
 ghost use Rattle.std.specs.Prelude.{◌≡◌, ◌++◌, [], Err, Ok, Some, None, OnOk, OnErr, IfOk, IfSome, true, false, is_none};
 ghost use Rattle.pqformat.specs.Putting.{Extends};
-ghost use Rattle.server.specs.Segment.{Ended, HasText, UnlessMemory, Went};
-ghost use Rattle.server.specs.declared.stage.Stage.TheVariants.{Fresh as Unopened};
+ghost use Rattle.server.specs.Segment.{Ended, HasCause, UnlessMemory, Went};
+ghost use Rattle.server.specs.declared.stages.stage.Stage.TheVariants.{Fresh as Unopened};
 ghost use Rattle.authentication.specs.Guarding.{Guards, Hears, IsAuthenticated, IsNew, LetsIn, guarded_phase, is_closed};
 
 use crate::stage::{Opening, Stage, Turned};
@@ -231,7 +231,7 @@ impl GuardedConnection {
             × (out.new.items ≡ out.old.items) }
         ensures went { is_none self.old.guard ≡ true →
             UnlessMemory result
-            (Went D.told HasText [] self.old.connection backend.old out.old.items
+            (Went D.told HasCause [] self.old.connection backend.old out.old.items
             self.new.connection backend.new out.new.items) }
         ensures unsaid { result ≡ Err ConnFault.Memory → out.new.items ≡ out.old.items }
     {

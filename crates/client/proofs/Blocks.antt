@@ -11,10 +11,10 @@ use Rattle.indexmap.specs.IndexMap.{insert_entry}
 use Rattle.pqformat.specs.Steps.{◌>>=◌}
 use Rattle.pgoutput.specs.declared.logical.Logical.{Logical}
 use Rattle.pgoutput.specs.declared.logical.Logical.TheVariants as logical
-use Rattle.pgoutput.specs.declared.begin.Begin.{Begin}
-use Rattle.pgoutput.specs.declared.relation.Relation.{Relation}
-use Rattle.pgoutput.specs.declared.tuple.Cell.{Cell}
-use Rattle.pgoutput.specs.declared.old_tuple.OldTuple.{OldTuple}
+use Rattle.pgoutput.specs.declared.messages.begin.Begin.{Begin}
+use Rattle.pgoutput.specs.declared.messages.relation.Relation.{Relation}
+use Rattle.pgoutput.specs.declared.parts.tuple.Cell.{Cell}
+use Rattle.pgoutput.specs.declared.parts.old_tuple.OldTuple.{OldTuple}
 use Rattle.pgoutput.specs.OldTuple.{cells_of}
 use Rattle.pgoutput.specs.declared.word.Word.{Word}
 use Rattle.pgoutput.specs.declared.published.Published.{Published}

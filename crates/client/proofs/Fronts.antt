@@ -8,7 +8,7 @@ use Rattle.std.proofs.lemmas.List.Concat.{flat_map-cons}
 use Rattle.frames.specs.Frame.{frame, FitsLength, IsKept}
 use Rattle.frames.specs.Back.{framed_back, back_limit, back_needs_memory}
 use Rattle.frames.specs.declared.copy_data.TheConstants.{COPY_DATA}
-use Rattle.frames.specs.declared.frame.TheConstants.{FRAME_LIMIT}
+use Rattle.frames.specs.declared.parts.frame.TheConstants.{FRAME_LIMIT}
 use Rattle.frames.specs.declared.back.Back.TheVariants.{CopyData}
 use Rattle.frames.proofs.Frames.{raw_again, raw_waits, frame_begins, length-frame}
 use Rattle.frames.proofs.Bodies.{back_bodies}

@@ -8,7 +8,7 @@ use Rattle.frames.specs.Back.{framed_back}
 use Rattle.frames.specs.declared.fault.FrameFault.{FrameFault}
 use Rattle.frames.specs.declared.back.Back.{Back}
 use Rattle.pqformat.proofs.Codec.{ok_is}
-use Rattle.pgoutput.specs.declared.relation.Relation.{Relation}
+use Rattle.pgoutput.specs.declared.messages.relation.Relation.{Relation}
 use Rattle.pgoutput.specs.declared.word.Word.{Word}
 use Rattle.pgoutput.specs.Words.{word_bytes, frames_of, FitsWord}
 use Rattle.pgoutput.specs.Items.{Item, item_words, words_of, bytes_of_items, FitItems}

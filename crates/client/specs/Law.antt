@@ -1,7 +1,7 @@
 -- What a stream makes of a subscriber: from each beginning of it, in any cuts, the transactions that stand whole there.
 use Rattle.std.specs.Prelude.{◌≡◌, ℕ, ◌<◌, false, List, [], ◌∷◌, ◌++◌, length, max, nat_le, Result, Ok, Err, if◌then◌else◌}
 use Rattle.std.specs.List.{AllByRecursion}
-use Rattle.pgoutput.specs.declared.relation.Relation.{Relation}
+use Rattle.pgoutput.specs.declared.messages.relation.Relation.{Relation}
 use Rattle.pgoutput.specs.declared.published.Published.{Published}
 use Rattle.pgoutput.specs.Words.{frames_of}
 use Rattle.pgoutput.specs.Items.{Item, KeepaliveItem, Block, bytes_of_items, item_words, relations_sent_after, transactions_of, FitItems}

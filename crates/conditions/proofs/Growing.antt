@@ -6,7 +6,7 @@ use Rattle.std.specs.Int.{w64}
 use Rattle.tables.specs.declared.column.Column.{Column as TableColumn}
 use Rattle.conditions.specs.declared.fault.FilterFault.{FilterFault}
 use Rattle.conditions.specs.declared.fault.FilterFault.TheVariants.{NumberRange, TooDeep}
-use Rattle.conditions.specs.declared.joint.Joint.TheVariants as joints
+use Rattle.conditions.specs.declared.trees.joint.Joint.TheVariants as joints
 use Rattle.conditions.specs.Conditions.{Condition, Literal, Compare, Is, Not, And, Or, Number}
 use Rattle.conditions.specs.Words.{Saying, SayAnd, SayOr, SayNot, SayIs, SayNull, SayBool, SayUnknown, SayName, SayNumber, SayText, SayComparison, SayOpen, SayClose}
 use Rattle.conditions.specs.Grammar.{Phrase, InName, InUnknown, InNumber, InText, InBool, InNull, InParentheses, InCompare, InIs, InNot, InAnd, InOr, tightness, meaning_of, levels, IsInRange}

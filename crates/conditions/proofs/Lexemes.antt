@@ -6,11 +6,11 @@ use Rattle.std.specs.Char.{is_ascii_digit}
 use Rattle.std.proofs.lemmas.Bool.{eqb-true}
 use Rattle.std.proofs.lemmas.Bool.Decides.{nat_tests}
 use Rattle.std.proofs.lemmas.List.{append-nil, length-append}
-use Rattle.conditions.specs.declared.class.Class.{Class}
-use Rattle.conditions.specs.declared.class.Class.TheVariants as classes
-use Rattle.conditions.specs.declared.token.Token.{Token}
-use Rattle.conditions.specs.declared.token.Token.TheVariants.{Word, Number, Quoted, Text, Mark, Pair, Stray}
-use Rattle.conditions.specs.declared.token.TheConstants.{NAME_QUOTE, TEXT_QUOTE, MINUS}
+use Rattle.conditions.specs.declared.words.class.Class.{Class}
+use Rattle.conditions.specs.declared.words.class.Class.TheVariants as classes
+use Rattle.conditions.specs.declared.words.token.Token.{Token}
+use Rattle.conditions.specs.declared.words.token.Token.TheVariants.{Word, Number, Quoted, Text, Mark, Pair, Stray}
+use Rattle.conditions.specs.declared.words.token.TheConstants.{NAME_QUOTE, TEXT_QUOTE, MINUS}
 use Rattle.conditions.specs.Tokens.{is_blank, is_first, is_later, is_mark, is_pair, spelling_of_token, without_minus, Each, IsWhole, StartsWith, Spells}
 use Rattle.pqformat.specs.Quoting.{begins, in_quotes, quoted_at}
 use Rattle.conditions.specs.Lexing.{is_of, run_of, after_run, closed_token, signed_at, one_mark, mark_at, token_behind, token_from, token_at, Lexes, lent, is_stray}

@@ -3,8 +3,8 @@ use Rattle.std.proofs.Common.{◌≡◌, ℕ, nat_lt, ◌≤◌, ◌<◌, Bool, 
 use Rattle.std.proofs.lemmas.Bool.{ltb-true, ltb-false}
 use Rattle.std.proofs.lemmas.List.{append-nil}
 use Rattle.std.specs.Prelude.{MatchOption, unwrap_or, option_and_then}
-use Rattle.conditions.specs.declared.joint.Joint.{Joint}
-use Rattle.conditions.specs.declared.joint.Joint.TheVariants as joints
+use Rattle.conditions.specs.declared.trees.joint.Joint.{Joint}
+use Rattle.conditions.specs.declared.trees.joint.Joint.TheVariants as joints
 use Rattle.conditions.specs.Words.{Saying, SayAnd, SayOr, SayNot, SayIs, SayNull, SayBool, SayUnknown, SayName, SayNumber, SayText, SayComparison, SayOpen, SayClose}
 use Rattle.conditions.specs.Grammar.{Phrase, InParentheses, InIs, saying_of_question, is_or_is_not, sayings_of, tightness, IsBound}
 use Rattle.conditions.specs.Stacks.{binds, left_of, Word, Joins, Denies, Asks, Opens, Closes, Operand, Stray, Pending, Enclosing, Denying, Joining, wants, completed, State, Wanting, Having, Asking, wanted_by, folded, joins, asks, closes_over, ends_over, step, outcome, run, word_of}

@@ -2,7 +2,7 @@
 use Rattle.std.proofs.Common.{◌≡◌, ℕ, Bool, true, false, cond, List, [], ◌∷◌, ◌++◌, refl, ap, ◌∙◌, arith}
 use Rattle.pqformat.specs.Quoting.{begins}
 use Rattle.pqformat.proofs.Quoting.{if_true, if_false}
-use Rattle.conditions.specs.declared.class.Class.{Class}
+use Rattle.conditions.specs.declared.words.class.Class.{Class}
 use Rattle.conditions.specs.Tokens.{Each}
 use Rattle.conditions.specs.Lexing.{is_of, run_of, after_run}
 

@@ -3,10 +3,10 @@ use Rattle.std.proofs.Common.{◌≡◌, ℕ, zero, suc, nat_lt, ◌≤◌, ◌<
 use Rattle.std.proofs.lemmas.Bool.{lt-ltb, le-ltb}
 use Rattle.std.proofs.lemmas.List.{append-nil}
 use Rattle.std.specs.Prelude.{option_and_then, if◌then◌else◌}
-use Rattle.conditions.specs.declared.joint.Joint.{Joint}
-use Rattle.conditions.specs.declared.joint.Joint.TheVariants as joints
-use Rattle.conditions.specs.declared.question.Question.{Question}
-use Rattle.conditions.specs.declared.question.Question.TheVariants as questions
+use Rattle.conditions.specs.declared.trees.joint.Joint.{Joint}
+use Rattle.conditions.specs.declared.trees.joint.Joint.TheVariants as joints
+use Rattle.conditions.specs.declared.values.question.Question.{Question}
+use Rattle.conditions.specs.declared.values.question.Question.TheVariants as questions
 use Rattle.conditions.specs.Words.{Saying, SayAnd, SayOr, SayNot, SayIs, SayComparison, SayOpen, SayClose}
 use Rattle.conditions.specs.Grammar.{Phrase, InName, InUnknown, InNumber, InText, InBool, InNull, InParentheses, InCompare, InIs, InNot, InAnd, InOr, saying_of_question, sayings_of, tightness, IsBound}
 use Rattle.conditions.specs.Stacks.{binds, left_of, Pending, Enclosing, Denying, Joining, wants, completed, State, Wanting, Having, Asking, wanted_by, folded, joins, asks, closes_over, ends_over, run, word_of}

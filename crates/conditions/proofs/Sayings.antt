@@ -2,7 +2,7 @@
 use Rattle.std.proofs.Common.{◌≡◌, List, [], ◌∷◌, map, true, false, Option, Some, None, refl, sym, ap, ◌∙◌}
 use Rattle.std.specs.Prelude.{unwrap_or, option_and_then, option_map}
 use Rattle.tables.specs.declared.column.Column.{Column as TableColumn}
-use Rattle.conditions.specs.declared.token.Token.{Token}
+use Rattle.conditions.specs.declared.words.token.Token.{Token}
 use Rattle.conditions.specs.Words.{Saying, said_by, said_by_all, with_first}
 use Rattle.conditions.specs.Grammar.{Phrase, sayings_of, IsBound}
 use Rattle.conditions.specs.Stacks.{Word, Stray, State, Wanting, Having, Asking, step, run, word_of, word_said}

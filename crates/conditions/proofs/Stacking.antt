@@ -4,8 +4,8 @@ use Rattle.std.proofs.lemmas.Bool.{lt-ltb}
 use Rattle.std.proofs.lemmas.List.{at_drop_more}
 use Rattle.std.specs.Prelude.{option_and_then}
 use Rattle.tables.specs.declared.column.Column.{Column as TableColumn}
-use Rattle.conditions.specs.declared.pending.Pending.{Pending as Item}
-use Rattle.conditions.specs.declared.token.Token.{Token}
+use Rattle.conditions.specs.declared.trees.pending.Pending.{Pending as Item}
+use Rattle.conditions.specs.declared.words.token.Token.{Token}
 use Rattle.conditions.specs.Stacks.{Pending, State, wants, wanted_by, folded, completed, ends_over, run, step}
 use Rattle.conditions.specs.Parts.{Grown, parts, word_at}
 use Rattle.conditions.specs.Views.{seen_pending, stack_on, stack_of}

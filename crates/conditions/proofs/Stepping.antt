@@ -4,7 +4,7 @@ use Rattle.std.specs.Prelude.{reverse, if◌then◌else◌}
 use Rattle.std.proofs.lemmas.List.{length-map, length-reverse, length-take-le, map-append, reverse-append, take-append-drop}
 use Rattle.std.proofs.lemmas.Bool.{le-ltb, lt-ltb}
 use Rattle.tables.specs.declared.kinds.Value.{Value}
-use Rattle.conditions.specs.declared.step.Step.{Step}
+use Rattle.conditions.specs.declared.flat.step.Step.{Step}
 use Rattle.conditions.specs.Conditions.{Condition, Column, Literal, Compare, Is, Not, And, Or}
 use Rattle.conditions.specs.Steps.{Turn, AreStepsOf, LeadDown, condition_asked, next_number, outcome, turn_of, turns, turns_of, highest_number}
 use Rattle.conditions.specs.Truth.{is_true, truth}

@@ -7,7 +7,7 @@ use Rattle.std.specs.Cmp.Lexicographic.{slice_cmp}
 use Rattle.std.specs.Ordering.{is_eq, is_ne, nat_cmp}
 use Rattle.std.specs.Str.{bytes_eq}
 use Rattle.tables.specs.declared.kinds.Value.{Value}
-use Rattle.conditions.specs.declared.comparison.Comparison.{Comparison}
+use Rattle.conditions.specs.declared.values.comparison.Comparison.{Comparison}
 use Rattle.conditions.specs.declared.truth.Truth.{Truth}
 use Rattle.conditions.specs.declared.truth.Truth.TheVariants.{True, False, Unknown}
 use Rattle.conditions.specs.Conditions.{Bytes, Number}

@@ -1,7 +1,7 @@
 -- What a filter says, as a tree, and the columns that it names.
 use Rattle.std.specs.Prelude.{◌≡◌, ℕ, ◌==◌, Bool, false, ◌||◌, ℤ, if◌then◌else◌, List, count_by}
-use Rattle.conditions.specs.declared.comparison.Comparison.{Comparison}
-use Rattle.conditions.specs.declared.question.Question.{Question}
+use Rattle.conditions.specs.declared.values.comparison.Comparison.{Comparison}
+use Rattle.conditions.specs.declared.values.question.Question.{Question}
 
 -- a value as conditions see it: integers of all widths are alike, and unknown is null
 pub data Datum : Type 0 where

@@ -4,12 +4,12 @@ use Rattle.std.specs.Int.{w64}
 use Rattle.std.specs.Str.{bytes_eq}
 use Rattle.tables.specs.declared.column.Column.{Column as TableColumn}
 use Rattle.tables.specs.declared.table.Table.{Table}
-use Rattle.conditions.specs.declared.token.Token.{Token}
+use Rattle.conditions.specs.declared.words.token.Token.{Token}
 use Rattle.conditions.specs.declared.fault.FilterFault.{FilterFault}
 use Rattle.conditions.specs.declared.fault.FilterFault.TheVariants.{Syntax, UnknownColumn, TypeMismatch, NumberRange, TooDeep, Memory}
-use Rattle.conditions.specs.declared.comparison.Comparison.{Comparison}
-use Rattle.conditions.specs.declared.question.Question.{Question}
-use Rattle.conditions.specs.declared.question.Question.TheVariants as questions
+use Rattle.conditions.specs.declared.values.comparison.Comparison.{Comparison}
+use Rattle.conditions.specs.declared.values.question.Question.{Question}
+use Rattle.conditions.specs.declared.values.question.Question.TheVariants as questions
 use Rattle.conditions.specs.Conditions.{Missing, Flag, Number, Bytes, Condition, Column, Literal, Compare, Is, Not, And, Or}
 use Rattle.conditions.specs.Tokens.{Spells}
 use Rattle.conditions.specs.Words.{Saying, SayAnd, SayOr, SayNot, SayIs, SayNull, SayBool, SayUnknown, SayName, SayNumber, SayText, SayComparison, SayOpen, SayClose, said_by_all}

@@ -7,11 +7,11 @@ use Rattle.conditions.specs.declared.fault.FilterFault.{FilterFault}
 use Rattle.conditions.specs.declared.fault.FilterFault.TheVariants.{Memory}
 use Rattle.std.specs.Borrow.{Bor}
 use Rattle.std.specs.Char.{is_ascii_digit}
-use Rattle.conditions.specs.declared.class.Class.{Class}
-use Rattle.conditions.specs.declared.class.Class.TheVariants as classes
-use Rattle.conditions.specs.declared.token.Token.{Token}
-use Rattle.conditions.specs.declared.token.Token.TheVariants.{Word, Number, Quoted, Text, Mark, Pair, Stray}
-use Rattle.conditions.specs.declared.token.TheConstants.{NAME_QUOTE, TEXT_QUOTE, MINUS}
+use Rattle.conditions.specs.declared.words.class.Class.{Class}
+use Rattle.conditions.specs.declared.words.class.Class.TheVariants as classes
+use Rattle.conditions.specs.declared.words.token.Token.{Token}
+use Rattle.conditions.specs.declared.words.token.Token.TheVariants.{Word, Number, Quoted, Text, Mark, Pair, Stray}
+use Rattle.conditions.specs.declared.words.token.TheConstants.{NAME_QUOTE, TEXT_QUOTE, MINUS}
 use Rattle.conditions.specs.Tokens.{is_blank, is_first, is_later, is_mark, is_pair}
 
 abbrev pub is_of : Class → ℕ → Bool

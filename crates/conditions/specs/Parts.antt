@@ -1,11 +1,11 @@
 -- The trees that words are read as: phrases, of which the law speaks, and conditions with their levels, which the code makes.
 use Rattle.std.specs.Prelude.{ℕ, suc, max, nat_lt, ◌^◌, ℤ, pos, negsuc, Bool, List, Option, Some, None, Result, Ok, Err, if◌then◌else◌, codes}
-use Rattle.conditions.specs.declared.joint.Joint.{Joint}
-use Rattle.conditions.specs.declared.joint.Joint.TheVariants as joints
+use Rattle.conditions.specs.declared.trees.joint.Joint.{Joint}
+use Rattle.conditions.specs.declared.trees.joint.Joint.TheVariants as joints
 use Rattle.conditions.specs.Words.{Saying, SayBool, SayUnknown, SayName, SayNumber, SayText}
 use Rattle.conditions.specs.Grammar.{Phrase, InName, InUnknown, InNumber, InText, InBool, InNull, InParentheses, InCompare, InIs, InNot, InAnd, InOr, tightness}
 use Rattle.tables.specs.declared.column.Column.{Column as TableColumn}
-use Rattle.conditions.specs.declared.token.Token.{Token}
+use Rattle.conditions.specs.declared.words.token.Token.{Token}
 use Rattle.conditions.specs.declared.fault.FilterFault.{FilterFault}
 use Rattle.conditions.specs.declared.fault.FilterFault.TheVariants.{NumberRange, TooDeep}
 use Rattle.conditions.specs.Conditions.{Missing, Flag, Number, Bytes, Condition, Column, Literal, Compare, Is, Not, And, Or}

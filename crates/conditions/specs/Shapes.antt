@@ -3,8 +3,8 @@ use Rattle.std.specs.Prelude.{ℕ, ◌==◌, List, [], ◌∷◌, ◌++◌, if�
 use Rattle.std.specs.List.{list_any}
 use Rattle.conditions.specs.declared.expression.Expression.{Expression}
 use Rattle.conditions.specs.declared.expression.Expression.TheVariants as expressions
-use Rattle.conditions.specs.declared.operand.Operand.{Operand}
-use Rattle.conditions.specs.declared.operand.Operand.TheVariants as operands
+use Rattle.conditions.specs.declared.values.operand.Operand.{Operand}
+use Rattle.conditions.specs.declared.values.operand.Operand.TheVariants as operands
 use Rattle.conditions.specs.declared.literal.Literal.{Literal as Written}
 use Rattle.conditions.specs.declared.literal.Literal.TheVariants as literals
 use Rattle.conditions.specs.Conditions.{Datum, Missing, Flag, Number, Bytes, Uuid, Condition, Column, Literal, Compare, Is, Not, And, Or}

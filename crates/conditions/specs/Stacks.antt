@@ -1,10 +1,10 @@
 -- Reading the words of a filter from left to right, with a stack of what waits for its right side. It is told of any trees:
 -- the law speaks of phrases, the code makes conditions of the same words.
 use Rattle.std.specs.Prelude.{ℕ, nat_lt, List, [], ◌∷◌, Option, Some, None, option_and_then, Bool, true, false, if◌then◌else◌}
-use Rattle.conditions.specs.declared.joint.Joint.{Joint}
-use Rattle.conditions.specs.declared.joint.Joint.TheVariants as joints
-use Rattle.conditions.specs.declared.question.Question.{Question}
-use Rattle.conditions.specs.declared.question.Question.TheVariants as questions
+use Rattle.conditions.specs.declared.trees.joint.Joint.{Joint}
+use Rattle.conditions.specs.declared.trees.joint.Joint.TheVariants as joints
+use Rattle.conditions.specs.declared.values.question.Question.{Question}
+use Rattle.conditions.specs.declared.values.question.Question.TheVariants as questions
 use Rattle.conditions.specs.Words.{Saying, SayAnd, SayOr, SayNot, SayIs, SayNull, SayBool, SayUnknown, SayName, SayNumber, SayText, SayComparison, SayOpen, SayClose}
 
 -- how tight it binds, and its two sides at least: OR, AND, and a comparison, whose sides are operands

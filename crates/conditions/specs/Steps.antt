@@ -1,12 +1,12 @@
 -- A condition laid out flat, as steps: what each asks, and which is asked next. That is told by a number: 0 and 1 end the asking, the
 -- condition being true at 1 alone, and 2 is the lowest step.
 use Rattle.std.specs.Prelude.{◌≡◌, ◌==◌, ◌<◌, ◌≤◌, ◌+◌, ◌^◌, ℕ, ℤ, nat_lt, Bool, Option, Some, None, slice_get, List, [], ◌∷◌, length, map, reverse, if◌then◌else◌}
-use Rattle.conditions.specs.declared.comparison.Comparison.{Comparison}
-use Rattle.conditions.specs.declared.comparison.Comparison.TheVariants as signs
-use Rattle.conditions.specs.declared.step.Step.{Step}
-use Rattle.conditions.specs.declared.step.NumberRead.{NumberRead}
-use Rattle.conditions.specs.declared.step.Asked.{Asked}
-use Rattle.conditions.specs.declared.step.Asked.TheVariants as asked
+use Rattle.conditions.specs.declared.values.comparison.Comparison.{Comparison}
+use Rattle.conditions.specs.declared.values.comparison.Comparison.TheVariants as signs
+use Rattle.conditions.specs.declared.flat.step.Step.{Step}
+use Rattle.conditions.specs.declared.flat.step.NumberRead.{NumberRead}
+use Rattle.conditions.specs.declared.flat.step.Asked.{Asked}
+use Rattle.conditions.specs.declared.flat.step.Asked.TheVariants as asked
 use Rattle.conditions.specs.Conditions.{Datum, Number, Bytes, Condition, Column, Literal, Compare, And, Or}
 use Rattle.conditions.specs.Shapes.{shape}
 use Rattle.conditions.specs.Truth.{datum_at}

@@ -1,15 +1,15 @@
 -- What the values of a reading stand for. No reader of the promise needs these.
 use Rattle.std.specs.Prelude.{◌≡◌, ℕ, List, [], ◌∷◌, Option, Some, None, Result, Ok, Err}
 use Rattle.conditions.specs.declared.fault.FilterFault.{FilterFault}
-use Rattle.conditions.specs.declared.part.Part.{Part}
-use Rattle.conditions.specs.declared.part.Tree.{Tree}
-pub use Rattle.conditions.specs.declared.pending.Pending.{Pending as Item}
-use Rattle.conditions.specs.declared.pending.Pending.TheVariants as items
+use Rattle.conditions.specs.declared.trees.part.Part.{Part}
+use Rattle.conditions.specs.declared.trees.part.Tree.{Tree}
+pub use Rattle.conditions.specs.declared.trees.pending.Pending.{Pending as Item}
+use Rattle.conditions.specs.declared.trees.pending.Pending.TheVariants as items
 use Rattle.conditions.specs.declared.fault.FilterFault.TheVariants.{Memory, Syntax}
-use Rattle.conditions.specs.declared.place.Place.{Place}
-use Rattle.conditions.specs.declared.place.Place.TheVariants as places
-use Rattle.conditions.specs.declared.word.Word.{Word as Read}
-use Rattle.conditions.specs.declared.word.Word.TheVariants as reads
+use Rattle.conditions.specs.declared.trees.place.Place.{Place}
+use Rattle.conditions.specs.declared.trees.place.Place.TheVariants as places
+use Rattle.conditions.specs.declared.words.word.Word.{Word as Read}
+use Rattle.conditions.specs.declared.words.word.Word.TheVariants as reads
 use Rattle.conditions.specs.Conditions.{Condition}
 use Rattle.conditions.specs.Shapes.{shape}
 use Rattle.conditions.specs.Stacks.{Pending, Enclosing, Denying, Joining, State, Wanting, Having, Asking, Word, Joins, Denies, Asks, Opens, Closes, Operand, Stray}

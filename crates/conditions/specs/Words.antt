@@ -3,11 +3,11 @@ use Rattle.std.specs.Prelude.{ℕ, ◌==◌, ℤ, pos, neg_ℤ, List, [], ◌∷
 use Rattle.std.specs.Char.{to_ascii_lowercase}
 use Rattle.std.specs.Str.{bytes_eq}
 use Rattle.std.specs.Str.Parse.{digits_value}
-use Rattle.conditions.specs.declared.comparison.Comparison.{Comparison}
-use Rattle.conditions.specs.declared.comparison.Comparison.TheVariants.{Equal, NotEqual, Less, Greater, LessOrEqual, GreaterOrEqual}
-use Rattle.conditions.specs.declared.token.Token.{Token}
-use Rattle.conditions.specs.declared.token.Token.TheVariants.{Word, Number, Quoted, Text, Mark, Pair, Stray}
-use Rattle.conditions.specs.declared.token.TheConstants.{MINUS}
+use Rattle.conditions.specs.declared.values.comparison.Comparison.{Comparison}
+use Rattle.conditions.specs.declared.values.comparison.Comparison.TheVariants.{Equal, NotEqual, Less, Greater, LessOrEqual, GreaterOrEqual}
+use Rattle.conditions.specs.declared.words.token.Token.{Token}
+use Rattle.conditions.specs.declared.words.token.Token.TheVariants.{Word, Number, Quoted, Text, Mark, Pair, Stray}
+use Rattle.conditions.specs.declared.words.token.TheConstants.{MINUS}
 
 pub data Saying : Type 0 where
   SayAnd : Saying

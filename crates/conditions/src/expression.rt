@@ -6,13 +6,13 @@ ghost use Rattle.conditions.specs.Conditions.{names};
 ghost use Rattle.conditions.specs.Kinds.{are_known, sort_of};
 ghost use Rattle.conditions.specs.Shapes.{datum_of_operand, literal_datum, shape, with_places_of};
 
-use crate::against::column_against;
-use crate::comparison::Comparison;
 use crate::literal::Literal;
-use crate::operand::Operand;
-use crate::question::Question;
-use crate::sort::{Sort, sort_asked, sort_compared, sort_denied, sort_joined};
 use crate::truth::Truth;
+use crate::values::against::column_against;
+use crate::values::comparison::Comparison;
+use crate::values::operand::Operand;
+use crate::values::question::Question;
+use crate::values::sort::{Sort, sort_asked, sort_compared, sort_denied, sort_joined};
 use std::alloc::{AllocError, Global};
 use tables::{Column, RowRef};
 

@@ -1,49 +1,35 @@
 //! Conditions over the row of a table: their words, the trees that these come to, their kinds, and what they are of a row.
 //!
-//! A text becomes tokens (`lexer.rt`, `token.rt`), these a tree of parts (`part.rt`) that grows over `pending.rt`, and that an
-//! `Expression` of steps (`steps.rt`), which `against.rt` runs over a row without memory. `kinds.rt` and `comparison.rt` say
+//! A text becomes tokens (`words/lexer.rt`, `words/token.rt`), these a tree of parts (`trees/part.rt`) that grows over `trees/pending.rt`, and that an
+//! `Expression` of steps (`flat/steps.rt`), which `values/against.rt` runs over a row without memory. `values/kinds.rt` and `values/comparison.rt` say
 //! what may be compared, and `truth.rt` has SQL's three values.
 //!
-//! Read `token.rt`, `part.rt`, `expression.rt`, `truth.rt`. Above, `rowfilter` uses one contract: what the steps come to of a
+//! Read `words/token.rt`, `trees/part.rt`, `expression.rt`, `truth.rt`. Above, `rowfilter` uses one contract: what the steps come to of a
 //! row is what the tree means of it.
 #![tactic(auto)]
 
-mod against;
-mod class;
-mod comparison;
 mod expression;
 mod fault;
-mod joint;
-mod kinds;
-mod lexer;
+mod flat;
 mod literal;
-mod number;
-mod operand;
-mod part;
-mod pending;
-mod place;
-mod question;
-mod sort;
-mod step;
-mod steps;
-mod tightness;
-mod token;
+mod trees;
 mod truth;
-mod word;
+mod values;
+mod words;
 
-pub use comparison::Comparison;
 pub use expression::Expression;
 pub use fault::FilterFault;
-pub use joint::Joint;
-pub use lexer::{behind_blanks, read_tokens, token_of};
+pub use flat::step::Step;
+pub use flat::steps::holds_by;
 pub use literal::Literal;
-pub use part::{MOST_LEVELS, Part, Tree};
-pub use pending::Pending;
-pub use place::{Place, whole};
-pub use question::Question;
-pub use sort::Sort;
-pub use step::Step;
-pub use steps::holds_by;
-pub use token::Token;
+pub use trees::joint::Joint;
+pub use trees::part::{MOST_LEVELS, Part, Tree};
+pub use trees::pending::Pending;
+pub use trees::place::{Place, whole};
 pub use truth::Truth;
-pub use word::Word;
+pub use values::comparison::Comparison;
+pub use values::question::Question;
+pub use values::sort::Sort;
+pub use words::lexer::{behind_blanks, read_tokens, token_of};
+pub use words::token::Token;
+pub use words::word::Word;

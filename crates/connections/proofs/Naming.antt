@@ -3,9 +3,9 @@ use Rattle.std.proofs.Common.{◌≡◌, ℕ, ◌<◌, Bool, true, false, cond, 
 use Rattle.std.specs.Str.{bytes_eq}
 use Rattle.std.specs.Option.{is_some}
 use Rattle.slots.specs.Directories.{AreSame, ChangesOnly, adding_fault, place_of}
-use Rattle.slots.specs.declared.directory.Directory.{Directory}
+use Rattle.slots.specs.declared.by_name.directory.Directory.{Directory}
 use Rattle.slots.specs.declared.fault.SlotFault.{SlotFault}
-use Rattle.slots.specs.declared.step.View.{View}
+use Rattle.slots.specs.declared.words_kept.step.View.{View}
 use Rattle.slots.specs.declared.table.TheConstants.{END_OF_PLACES}
 use Rattle.connections.specs.Names.{AreInTable, IsMadeAndDropped, IsNoNewSlot}
 

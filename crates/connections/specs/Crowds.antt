@@ -1,7 +1,7 @@
 -- What is due to a client that comes where as many are served as may be, by what it has sent.
 use Rattle.std.specs.Prelude.{ℕ, Option, Some, None, Result, Ok, Err}
-use Rattle.frames.specs.declared.startup.Startup.{Startup}
-use Rattle.frames.specs.declared.startup.Startup.TheVariants.{Session, Ssl, Gss, Cancel}
+use Rattle.frames.specs.declared.frontend.startup.Startup.{Startup}
+use Rattle.frames.specs.declared.frontend.startup.Startup.TheVariants.{Session, Ssl, Gss, Cancel}
 use Rattle.frames.specs.declared.fault.FrameFault.{FrameFault}
 use Rattle.connections.specs.declared.socket.crowd.Due.{Due}
 use Rattle.connections.specs.declared.socket.crowd.Due.TheVariants as due

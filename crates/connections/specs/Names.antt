@@ -4,11 +4,11 @@ use Rattle.std.specs.Prelude.{◌≡◌, ℕ, ◌<◌, ◌≢◌, ◌⊎◌, Lis
 use Rattle.std.specs.Option.{ForSome}
 use Rattle.slots.specs.Directories.{place_of}
 use Rattle.slots.specs.Seats.{Did, IsRefusal, Made}
-use Rattle.slots.specs.declared.directory.Directory.{Directory}
+use Rattle.slots.specs.declared.by_name.directory.Directory.{Directory}
 use Rattle.slots.specs.declared.fault.SlotFault.{SlotFault}
 use Rattle.slots.specs.declared.fault.SlotFault.TheVariants.{Exists, Missing, NoPlace, Memory}
-use Rattle.slots.specs.declared.step.SlotKind.TheVariants.{Create, Retire}
-use Rattle.slots.specs.declared.step.View.{View}
+use Rattle.slots.specs.declared.words_kept.step.SlotKind.TheVariants.{Create, Retire}
+use Rattle.slots.specs.declared.words_kept.step.View.{View}
 use Rattle.slots.specs.declared.table.TheConstants.{END_OF_PLACES}
 
 -- every name has a place of the table

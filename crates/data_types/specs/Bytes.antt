@@ -2,8 +2,8 @@
 use Rattle.std.specs.Prelude.{ℕ, ◌<◌, ◌+◌, ◌-◌, ◌*◌, ◌==◌, ◌&&◌, ◌||◌, Bool, true, false, List, [], ◌∷◌, ◌++◌, nat_le, Option, Some, None, if◌then◌else◌}
 use Rattle.std.specs.Option.{option_and_then}
 use Rattle.std.specs.Char.{digit_value, is_ascii_hexdigit}
-use Rattle.data_types.specs.declared.bytea.Escape.{Escape}
-use Rattle.data_types.specs.declared.bytea.Escape.TheVariants as escapes
+use Rattle.data_types.specs.declared.texts.bytea.Escape.{Escape}
+use Rattle.data_types.specs.declared.texts.bytea.Escape.TheVariants as escapes
 
 abbrev pub is_lower_hex : ℕ → Bool
 is_lower_hex b = (nat_le 48 b && nat_le b 57) || (nat_le 97 b && nat_le b 102)

@@ -5,8 +5,8 @@ use Rattle.std.specs.Char.{to_ascii_lowercase}
 use Rattle.std.specs.Str.{bytes_eq}
 use Rattle.data_types.specs.Digits.{Run, digits_at, after_blanks, are_blanks, word_length}
 use Rattle.data_types.specs.Truths.{abridges}
-use Rattle.data_types.specs.declared.calendar.WrittenDay.{WrittenDay}
-use Rattle.data_types.specs.declared.calendar.TheConstants.{EPOCH_DAY, MAX_YEAR, MAX_YEAR_BEFORE, INFINITE_DAY}
+use Rattle.data_types.specs.declared.texts.calendar.WrittenDay.{WrittenDay}
+use Rattle.data_types.specs.declared.texts.calendar.TheConstants.{EPOCH_DAY, MAX_YEAR, MAX_YEAR_BEFORE, INFINITE_DAY}
 
 -- WHAT IS WRITTEN
 

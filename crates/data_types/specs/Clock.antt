@@ -3,9 +3,9 @@ use Rattle.std.specs.Prelude.{ℕ, ◌+◌, ◌-◌, ◌*◌, ◌/◌, ◌%◌, 
 use Rattle.std.specs.Option.{option_and_then, option_map, option_map_or}
 use Rattle.data_types.specs.Digits.{Run, digits_at, after_blanks, are_blanks}
 use Rattle.data_types.specs.Calendar.{part_at}
-use Rattle.data_types.specs.declared.clock.WrittenSeconds.{WrittenSeconds}
-use Rattle.data_types.specs.declared.clock.WrittenTime.{WrittenTime}
-use Rattle.data_types.specs.declared.clock.TheConstants.{DAY_MICROSECONDS}
+use Rattle.data_types.specs.declared.texts.clock.WrittenSeconds.{WrittenSeconds}
+use Rattle.data_types.specs.declared.texts.clock.WrittenTime.{WrittenTime}
+use Rattle.data_types.specs.declared.texts.clock.TheConstants.{DAY_MICROSECONDS}
 
 -- seconds and their fraction, whether they are written as they are sent, and what stands after them
 pub record Seconds : Type 0 where

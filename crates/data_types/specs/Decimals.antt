@@ -5,8 +5,8 @@ use Rattle.std.specs.Char.{is_ascii_digit}
 use Rattle.std.specs.Str.{bytes_eq}
 use Rattle.data_types.specs.Clock.{is_empty}
 use Rattle.data_types.specs.declared.limits.DecimalPlaces.{DecimalPlaces}
-use Rattle.data_types.specs.declared.decimal.WrittenDecimal.{WrittenDecimal}
-use Rattle.data_types.specs.declared.decimal.TheConstants.{MAX_WHOLE_DIGITS, MAX_SCALE}
+use Rattle.data_types.specs.declared.texts.decimal.WrittenDecimal.{WrittenDecimal}
+use Rattle.data_types.specs.declared.texts.decimal.TheConstants.{MAX_WHOLE_DIGITS, MAX_SCALE}
 
 -- a sign, the digits before the point and after it, and what stands after them
 pub record Decimal : Type 0 where

@@ -2,7 +2,7 @@
 use Rattle.std.specs.Prelude.{ℕ, ◌+◌, ◌-◌, ◌*◌, ◌^◌, ◌==◌, ◌||◌, ◌&&◌, Bool, true, false, List, [], ◌∷◌, nat_lt, nat_le, Option, Some, None, if◌then◌else◌}
 use Rattle.std.specs.List.{list_all}
 use Rattle.std.specs.Char.{is_ascii_digit}
-use Rattle.data_types.specs.declared.digits.Digits.{Digits}
+use Rattle.data_types.specs.declared.texts.digits.Digits.{Digits}
 
 -- the number that digits spell, how many they are, and what stands after them
 pub record Run : Type 0 where

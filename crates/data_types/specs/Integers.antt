@@ -3,8 +3,8 @@ use Rattle.std.specs.Prelude.{ℕ, ℤ, pos, negsuc, neg_ℤ, ◌^◌, ◌==◌,
 use Rattle.std.specs.Option.{option_and_then, option_map_or}
 use Rattle.std.specs.Fmt.{signed_decimal}
 use Rattle.std.specs.Str.{bytes_eq}
-use Rattle.data_types.specs.declared.integer.Width.{Width}
-use Rattle.data_types.specs.declared.integer.Width.TheVariants as widths
+use Rattle.data_types.specs.declared.texts.integer.Width.{Width}
+use Rattle.data_types.specs.declared.texts.integer.Width.TheVariants as widths
 use Rattle.data_types.specs.Digits.{Run, digits_at, after_blanks, are_blanks}
 
 -- an integer of so many bits and a sign

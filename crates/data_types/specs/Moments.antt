@@ -5,11 +5,11 @@ use Rattle.std.specs.Char.{is_ascii_digit}
 use Rattle.data_types.specs.Digits.{Run, digits_at, after_blanks, are_blanks, word_length}
 use Rattle.data_types.specs.Calendar.{Day, lent_day, day_at, day_number, is_before_of, is_era_text, is_infinite_text, is_word, part_at}
 use Rattle.data_types.specs.Clock.{Time, lent_time, time_at}
-use Rattle.data_types.specs.declared.moment.WrittenMoment.{WrittenMoment}
-use Rattle.data_types.specs.declared.moment.WrittenZone.{WrittenZone}
-use Rattle.data_types.specs.declared.clock.TheConstants.{DAY_MICROSECONDS}
-use Rattle.data_types.specs.declared.calendar.TheConstants.{EPOCH_DAY}
-use Rattle.data_types.specs.declared.moment.TheConstants.{END_DAY, INFINITE_MOMENT}
+use Rattle.data_types.specs.declared.texts.moment.WrittenMoment.{WrittenMoment}
+use Rattle.data_types.specs.declared.texts.moment.WrittenZone.{WrittenZone}
+use Rattle.data_types.specs.declared.texts.clock.TheConstants.{DAY_MICROSECONDS}
+use Rattle.data_types.specs.declared.texts.calendar.TheConstants.{EPOCH_DAY}
+use Rattle.data_types.specs.declared.texts.moment.TheConstants.{END_DAY, INFINITE_MOMENT}
 
 -- THE TIME OF A DAY
 

@@ -1,25 +1,16 @@
 //! PostgreSQL's data types, of those that columns have here, and the texts of their values.
 //!
 //! `data_type.rt` is the table of what a Relation tells of each, `name.rt` has the names in a configuration, `limits.rt` what stands in
-//! parentheses. Each type has a file that says which texts are sent of it, as `calendar.rt` of dates; `sent.rt` joins them.
+//! parentheses. Each type has a file that says which texts are sent of it, as `texts/calendar.rt` of dates; `sent.rt` joins them.
 //!
 //! Above, three contracts are used: `DataType::named`, `DataType::is_sent`, and what the Relation tells.
 #![tactic(auto)]
 
-mod bytea;
-mod calendar;
-mod characters;
-mod clock;
 mod data_type;
-mod decimal;
-mod digits;
-mod integer;
 mod limits;
-mod moment;
 mod name;
 mod sent;
-mod truth;
-mod uuid_text;
+mod texts;
 
 pub use data_type::DataType;
 pub use limits::{CharacterLimit, DecimalPlaces, MAX_CHARACTERS, MAX_PRECISION};

@@ -4,8 +4,8 @@ ghost use Rattle.std.specs.Prelude.{◌≡◌, ◌≤◌, length};
 ghost use Rattle.data_types.specs.Names.{count_in, type_named, type_of_word, letter_count, limit_in, limited_type, places_in, plain_type, scale_after};
 
 use crate::data_type::DataType;
-use crate::digits::digits_at;
 use crate::limits::{CharacterLimit, DecimalPlaces};
+use crate::texts::digits::digits_at;
 
 impl DataType {
     /// The type of this name, such as `date`, `varchar(20)` or `numeric(10,2)`; None of those of which `is_sent` takes no text, and of

@@ -3,16 +3,16 @@
 ghost use Rattle.std.specs.Prelude.{◌≡◌};
 ghost use Rattle.data_types.specs.Sent.{is_sent_text};
 
-use crate::bytea::is_bytea_text;
-use crate::calendar::is_date_text;
-use crate::characters::{has_no_zero, is_char_text, is_varchar_text};
-use crate::clock::is_time_text;
 use crate::data_type::DataType;
-use crate::decimal::is_numeric_text;
-use crate::integer::{Width, is_integer_text};
-use crate::moment::is_moment_text;
-use crate::truth::is_truth_text;
-use crate::uuid_text::is_uuid_text;
+use crate::texts::bytea::is_bytea_text;
+use crate::texts::calendar::is_date_text;
+use crate::texts::characters::{has_no_zero, is_char_text, is_varchar_text};
+use crate::texts::clock::is_time_text;
+use crate::texts::decimal::is_numeric_text;
+use crate::texts::integer::{Width, is_integer_text};
+use crate::texts::moment::is_moment_text;
+use crate::texts::truth::is_truth_text;
+use crate::texts::uuid_text::is_uuid_text;
 
 impl DataType {
     /// Whether PostgreSQL sends this text, in UTF-8, of a value of the type; false of types of which that isn't decided here.

@@ -5,7 +5,7 @@ use Rattle.std.specs.Prelude.{◌<◌}
 use Rattle.std.specs.List.{AllByRecursion}
 use Rattle.pgoutput.specs.declared.published.Published.{Published}
 use Rattle.follower.specs.declared.resume_point.ResumePoint.{ResumePoint}
-use Rattle.follower.specs.declared.line.Line.{Line}
+use Rattle.follower.specs.declared.printing.line.Line.{Line}
 use Rattle.follower.specs.ResumePoint.{with_line, with_lines}
 use Rattle.follower.specs.Lives.{place_behind, place_behind_all}
 use Rattle.follower.specs.Found.{IsFirst, IsWithin, TellsTransaction, TellsNote, TellsOne, TellAll, BeginsOne, bytes_in, nothing_kept, Finds}

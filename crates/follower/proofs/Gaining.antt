@@ -6,10 +6,10 @@ use Rattle.std.proofs.lemmas.Bool.Decides.{nat_tests}
 use Rattle.std.proofs.lemmas.List.{append-nil}
 use Rattle.pqformat.specs.Steps.{◌>>=◌}
 use Rattle.pqformat.proofs.Codec.{ok_is}
-use Rattle.pgoutput.specs.declared.begin.Begin.{Begin}
-use Rattle.pgoutput.specs.declared.commit.Commit.{Commit}
-use Rattle.pgoutput.specs.declared.message.Message.{Message}
-use Rattle.pgoutput.specs.declared.relation.Relation.{Relation}
+use Rattle.pgoutput.specs.declared.messages.begin.Begin.{Begin}
+use Rattle.pgoutput.specs.declared.messages.commit.Commit.{Commit}
+use Rattle.pgoutput.specs.declared.messages.message.Message.{Message}
+use Rattle.pgoutput.specs.declared.messages.relation.Relation.{Relation}
 use Rattle.pgoutput.specs.declared.logical.Logical.{Logical}
 use Rattle.pgoutput.specs.declared.logical.Logical.TheVariants as logical
 use Rattle.pgoutput.specs.declared.word.Word.{Word}

@@ -8,7 +8,7 @@ use Rattle.frames.specs.declared.copy_done.TheConstants.{COPY_DONE}
 use Rattle.client.specs.declared.fault.ClientFault.{ClientFault}
 use Rattle.client.specs.Taking.{ApplierState, Takes}
 use Rattle.follower.specs.Once.{applier_without_applied}
-use Rattle.follower.specs.declared.delivery.Delivery.{Delivery}
+use Rattle.follower.specs.declared.receiving.delivery.Delivery.{Delivery}
 use Rattle.follower.specs.Standing.{Standing, Deed, Waits, Receives, Prints, Sums, Breaks, Tells, Ends, Does, Runs, IsOfAStream, Goes, GoesOver, HandsOver, FailsToHand, connected, standing, status_at}
 
 runs_then : (a : Standing) (ds es : List Deed) (b c : Standing) → Runs a ds b → Runs b es c → Runs a (ds ++ es) c

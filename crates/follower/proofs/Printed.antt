@@ -2,10 +2,10 @@
 use Rattle.std.proofs.Common.{◌≡◌, ℕ, Bool, true, false, cond, eqb, List, [], ◌∷◌, ◌++◌, Option, Some, None, Result, Ok, Err, refl, ap, ◌∙◌, append_assoc}
 use Rattle.std.specs.Prelude.{max, nat_le, nat_lt}
 use Rattle.pqformat.specs.Steps.{◌>>=◌}
-use Rattle.pgoutput.specs.declared.begin.Begin.{Begin}
-use Rattle.pgoutput.specs.declared.commit.Commit.{Commit}
-use Rattle.pgoutput.specs.declared.message.Message.{Message}
-use Rattle.pgoutput.specs.declared.relation.Relation.{Relation}
+use Rattle.pgoutput.specs.declared.messages.begin.Begin.{Begin}
+use Rattle.pgoutput.specs.declared.messages.commit.Commit.{Commit}
+use Rattle.pgoutput.specs.declared.messages.message.Message.{Message}
+use Rattle.pgoutput.specs.declared.messages.relation.Relation.{Relation}
 use Rattle.pgoutput.specs.declared.logical.Logical.{Logical}
 use Rattle.pgoutput.specs.declared.logical.Logical.TheVariants as logical
 use Rattle.pgoutput.specs.declared.word.Word.{Word}

@@ -3,7 +3,7 @@ use Rattle.std.specs.Prelude.{◌≡◌, ℕ, ◌+◌, ◌<◌, Bool, true, fals
 use Rattle.std.specs.List.{AllByRecursion}
 use Rattle.pgoutput.specs.declared.published.Published.{Published}
 use Rattle.follower.specs.declared.resume_point.ResumePoint.{ResumePoint}
-use Rattle.follower.specs.declared.line.Line.{Line}
+use Rattle.follower.specs.declared.printing.line.Line.{Line}
 use Rattle.follower.specs.Lives.{place_behind}
 
 -- the first line of one, or what is there of it

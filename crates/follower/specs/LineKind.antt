@@ -1,9 +1,9 @@
 -- What a printed line counts as: a Commit ends its transaction, and a note is one by itself, as the next run finds them in the output.
 use Rattle.std.specs.Prelude.{ℕ, Bool, true, false, Option, Some, None}
 use Rattle.message_lines.specs.Ending.{behind}
-use Rattle.follower.specs.declared.line.Line.{Line}
-use Rattle.follower.specs.declared.line_kind.LineKind.{LineKind}
-use Rattle.follower.specs.declared.line_kind.LineKind.TheVariants.{Begin, Change, Message, Note, Commit}
+use Rattle.follower.specs.declared.printing.line.Line.{Line}
+use Rattle.follower.specs.declared.printing.line_kind.LineKind.{LineKind}
+use Rattle.follower.specs.declared.printing.line_kind.LineKind.TheVariants.{Begin, Change, Message, Note, Commit}
 
 abbrev pub told_begins : LineKind → Bool
 told_begins Begin = true

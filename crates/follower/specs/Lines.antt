@@ -6,9 +6,9 @@ use Rattle.message_lines.specs.Ending.{end_of}
 use Rattle.message_lines.specs.Fronts.{Tells}
 use Rattle.message_lines.specs.Texts.{commit_text}
 use Rattle.follower.specs.TextLines.{TellsEnd, text_begins, text_is_change, text_is_note}
-use Rattle.follower.specs.declared.form.Form.{Form}
-use Rattle.follower.specs.declared.form.Form.TheVariants.{Text, Json}
-use Rattle.follower.specs.declared.line.Line.{Line}
+use Rattle.follower.specs.declared.printing.form.Form.{Form}
+use Rattle.follower.specs.declared.printing.form.Form.TheVariants.{Text, Json}
+use Rattle.follower.specs.declared.printing.line.Line.{Line}
 
 -- Of text: what it ends stands in it, whole; and of what is printed of a Commit it ends that.
 pub record IsTextLine (text : List ℕ) (line : Line) : Type 0 where

@@ -3,17 +3,17 @@
 use Rattle.std.specs.Prelude.{ℕ, ◌+◌, ◌==◌, List, [], ◌∷◌, ◌++◌, length, codes, Option, option_map, Result, if◌then◌else◌}
 use Rattle.std.specs.Int.{w32}
 use Rattle.pqformat.specs.Fields.{int32, number_at, string}
-use Rattle.frames.specs.declared.authentication_ok.TheConstants.{AUTHENTICATION}
+use Rattle.frames.specs.declared.backend.authentication_ok.TheConstants.{AUTHENTICATION}
 use Rattle.frames.specs.declared.fault.FrameFault.{FrameFault}
 use Rattle.frames.specs.Frame.{body_alone}
 use Rattle.frames.specs.Startup.{startup, startup_body}
-use Rattle.frames.specs.declared.startup.Startup.{Startup}
-use Rattle.frames.specs.declared.startup.Startup.TheVariants.{Session}
-use Rattle.frames.specs.declared.startup.TheConstants.{PROTOCOL_VERSION}
-use Rattle.follower.specs.declared.request.TheConstants.{MOST_REQUEST_BYTES}
-use Rattle.follower.specs.declared.request.RequestKind.{RequestKind}
-use Rattle.follower.specs.declared.request.RequestKind.TheVariants.{Nothing, Cleartext, Md5, Sasl, SaslContinue, SaslFinal, Other}
-use Rattle.follower.specs.declared.sasl_response.TheConstants.{PASSWORD}
+use Rattle.frames.specs.declared.frontend.startup.Startup.{Startup}
+use Rattle.frames.specs.declared.frontend.startup.Startup.TheVariants.{Session}
+use Rattle.frames.specs.declared.frontend.startup.TheConstants.{PROTOCOL_VERSION}
+use Rattle.follower.specs.declared.login.request.TheConstants.{MOST_REQUEST_BYTES}
+use Rattle.follower.specs.declared.login.request.RequestKind.{RequestKind}
+use Rattle.follower.specs.declared.login.request.RequestKind.TheVariants.{Nothing, Cleartext, Md5, Sasl, SaslContinue, SaslFinal, Other}
+use Rattle.follower.specs.declared.login.sasl_response.TheConstants.{PASSWORD}
 
 -- ---- the server's
 

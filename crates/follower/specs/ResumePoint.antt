@@ -1,7 +1,7 @@
 -- What an output holds, line by line.
 use Rattle.std.specs.Prelude.{ℕ, ◌+◌, ◌-◌, ◌^◌, ◌==◌, ◌||◌, ◌&&◌, Bool, not, min, List, [], ◌∷◌, Option, Some, None, if◌then◌else◌}
 use Rattle.follower.specs.declared.resume_point.ResumePoint.{ResumePoint}
-use Rattle.follower.specs.declared.line.Line.{Line}
+use Rattle.follower.specs.declared.printing.line.Line.{Line}
 
 -- after a Commit or a note all lines up to it count
 abbrev pub kept_up_to_end : ResumePoint → Option ℕ → ResumePoint

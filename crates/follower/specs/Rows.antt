@@ -2,9 +2,9 @@
 use Rattle.std.specs.Prelude.{ℕ, List, position, slice_get, Option, Some, None}
 use Rattle.std.specs.Option.{option_and_then}
 use Rattle.std.specs.Str.{bytes_eq}
-use Rattle.pgoutput.specs.declared.relation.Column.{Column}
-use Rattle.pgoutput.specs.declared.tuple.Cell.{Cell}
-use Rattle.pgoutput.specs.declared.tuple.Cell.TheVariants as cells
+use Rattle.pgoutput.specs.declared.messages.relation.Column.{Column}
+use Rattle.pgoutput.specs.declared.parts.tuple.Cell.{Cell}
+use Rattle.pgoutput.specs.declared.parts.tuple.Cell.TheVariants as cells
 
 -- what was sent of the column of this name
 abbrev pub cell_named : List Column → List Cell → List ℕ → Option Cell

@@ -9,7 +9,7 @@ use Rattle.copyboth.specs.Status.{status}
 use Rattle.client.specs.declared.fault.ClientFault.{ClientFault}
 use Rattle.client.specs.Taking.{ApplierState, Takes}
 use Rattle.follower.specs.Once.{applier_at_connection, applier_without_applied}
-use Rattle.follower.specs.declared.delivery.Delivery.{Delivery}
+use Rattle.follower.specs.declared.receiving.delivery.Delivery.{Delivery}
 
 -- what it has taken, and what came after that; what came to its output, and what of that stands there for good; what its server
 -- was sent; and whether the output has failed

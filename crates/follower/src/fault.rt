@@ -1,6 +1,6 @@
 //! Why a stream was not followed to its end, K1 to K9.
 
-use crate::login_fault::LoginFault;
+use crate::login::login_fault::LoginFault;
 use client::ClientFault;
 use frames::{ErrorResponse, FrameFault};
 use message_lines::LineFault;

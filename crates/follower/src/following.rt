@@ -1,13 +1,13 @@
 //! Following a stream: each message printed, each transaction and each note acknowledged.
 
-use crate::asking::{ask_for_stream, send};
 use crate::fault::FollowFault;
-use crate::form::Form;
-use crate::incoming::Incoming;
-use crate::json_transcript::JsonTranscript;
+use crate::login::asking::{ask_for_stream, send};
 use crate::options::Options;
+use crate::printing::form::Form;
+use crate::printing::json_transcript::JsonTranscript;
+use crate::receiving::incoming::Incoming;
+use crate::receiving::streamed::{body_in, carried, message_in, print_lines};
 use crate::resume_point::ResumePoint;
-use crate::streamed::{body_in, carried, message_in, print_lines};
 use client::{Applier, ClientFault};
 use copyboth::{ServerBody, clock_now};
 use frames::{Back, Front};

@@ -1,6 +1,6 @@
 //! What is followed.
 
-use crate::form::Form;
+use crate::printing::form::Form;
 
 /// Which slot is followed, from where on, and for how long.
 #[derive(Clone, Copy)]

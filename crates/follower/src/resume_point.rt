@@ -3,10 +3,10 @@
 ghost use Rattle.std.specs.Prelude.{◌≡◌, None, false, OnErr, OnOk};
 ghost use Rattle.follower.specs.ResumePoint.{more_by, with_line};
 ghost use Rattle.follower.specs.Lines.{IsLineOf};
-ghost use Rattle.follower.specs.declared.line.Line.{Line as ToldLine};
+ghost use Rattle.follower.specs.declared.printing.line.Line.{Line as ToldLine};
 
-use crate::form::Form;
-use crate::line::Line;
+use crate::printing::form::Form;
+use crate::printing::line::Line;
 use std::alloc::{AllocError, Global};
 
 /// Of the lines that were read, those up to the last whole Commit or note, and what stands after them.

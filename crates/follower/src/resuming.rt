@@ -4,13 +4,13 @@ ghost use Rattle.std.specs.Prelude.{◌≡◌, ◌⊎◌, ◌-◌, ◌≤◌, []
 ghost use Rattle.std.specs.Io.KnownBytes.{Keeps};
 ghost use Rattle.follower.specs.Standing.{Goes, GoesOver, connected, standing};
 
-use crate::asking::{ask_system, create_if_absent, greet, start_stream};
-use crate::delivery::Delivery;
 use crate::fault::{FollowFault, OtherSystem};
-use crate::incoming::Incoming;
+use crate::login::asking::{ask_system, create_if_absent, greet, start_stream};
+use crate::login::peer::Peer;
 use crate::options::Options;
-use crate::output::Output;
-use crate::peer::Peer;
+use crate::printing::output::Output;
+use crate::receiving::delivery::Delivery;
+use crate::receiving::incoming::Incoming;
 use crate::resume_point::ResumePoint;
 use copyboth::clock_now;
 use std::alloc::Global;

@@ -8,30 +8,30 @@ use Rattle.std.proofs.lemmas.Bool.Decides.{nat_tests}
 use Rattle.std.proofs.lemmas.List.{append-nil}
 use Rattle.frames.specs.declared.fault.FrameFault.{FrameFault}
 use Rattle.frames.specs.declared.fault.FrameFault.TheVariants.{UnknownType, NotUtf8}
-use Rattle.frames.specs.declared.authentication_ok.TheConstants.{AUTHENTICATION}
-use Rattle.frames.specs.declared.parameter_status.TheConstants.{PARAMETER_STATUS}
-use Rattle.frames.specs.declared.backend_key_data.TheConstants.{BACKEND_KEY_DATA}
-use Rattle.frames.specs.declared.ready_for_query.TheConstants.{READY_FOR_QUERY}
-use Rattle.frames.specs.declared.ready_for_query.Status.{Status}
-use Rattle.frames.specs.declared.ready_for_query.Status.TheVariants.{Idle, InTransaction, Failed}
-use Rattle.frames.specs.declared.command_complete.TheConstants.{COMMAND_COMPLETE}
-use Rattle.frames.specs.declared.row_description.TheConstants.{ROW_DESCRIPTION}
-use Rattle.frames.specs.declared.row_description.ColumnDescription.{ColumnDescription}
-use Rattle.frames.specs.declared.row_description.ColumnType.{ColumnType}
-use Rattle.frames.specs.declared.data_row.TheConstants.{DATA_ROW}
-use Rattle.frames.specs.declared.data_row.DataValue.{DataValue}
-use Rattle.frames.specs.declared.data_row.DataValue.TheVariants as values
-use Rattle.frames.specs.declared.error_response.TheConstants.{ERROR_RESPONSE}
-use Rattle.frames.specs.declared.error_response.ErrorField.{ErrorField}
-use Rattle.frames.specs.declared.copy_both_response.TheConstants.{COPY_BOTH_RESPONSE}
-use Rattle.frames.specs.declared.copy_both_response.CopyBothResponse.{CopyBothResponse}
+use Rattle.frames.specs.declared.backend.authentication_ok.TheConstants.{AUTHENTICATION}
+use Rattle.frames.specs.declared.backend.parameter_status.TheConstants.{PARAMETER_STATUS}
+use Rattle.frames.specs.declared.backend.backend_key_data.TheConstants.{BACKEND_KEY_DATA}
+use Rattle.frames.specs.declared.backend.ready_for_query.TheConstants.{READY_FOR_QUERY}
+use Rattle.frames.specs.declared.backend.ready_for_query.Status.{Status}
+use Rattle.frames.specs.declared.backend.ready_for_query.Status.TheVariants.{Idle, InTransaction, Failed}
+use Rattle.frames.specs.declared.backend.command_complete.TheConstants.{COMMAND_COMPLETE}
+use Rattle.frames.specs.declared.backend.row_description.TheConstants.{ROW_DESCRIPTION}
+use Rattle.frames.specs.declared.backend.row_description.ColumnDescription.{ColumnDescription}
+use Rattle.frames.specs.declared.backend.row_description.ColumnType.{ColumnType}
+use Rattle.frames.specs.declared.backend.data_row.TheConstants.{DATA_ROW}
+use Rattle.frames.specs.declared.backend.data_row.DataValue.{DataValue}
+use Rattle.frames.specs.declared.backend.data_row.DataValue.TheVariants as values
+use Rattle.frames.specs.declared.backend.error_response.TheConstants.{ERROR_RESPONSE}
+use Rattle.frames.specs.declared.backend.error_response.ErrorField.{ErrorField}
+use Rattle.frames.specs.declared.backend.copy_both_response.TheConstants.{COPY_BOTH_RESPONSE}
+use Rattle.frames.specs.declared.backend.copy_both_response.CopyBothResponse.{CopyBothResponse}
 use Rattle.frames.specs.declared.copy_data.CopyData.{CopyData}
 use Rattle.frames.specs.declared.copy_data.TheConstants.{COPY_DATA}
 use Rattle.frames.specs.declared.copy_done.TheConstants.{COPY_DONE}
-use Rattle.frames.specs.declared.copy_fail.TheConstants.{COPY_FAIL}
-use Rattle.frames.specs.declared.query.TheConstants.{QUERY, QUERY_LIMIT}
-use Rattle.frames.specs.declared.terminate.TheConstants.{TERMINATE}
-use Rattle.frames.specs.declared.frame.TheConstants.{FRAME_LIMIT}
+use Rattle.frames.specs.declared.frontend.copy_fail.TheConstants.{COPY_FAIL}
+use Rattle.frames.specs.declared.frontend.query.TheConstants.{QUERY, QUERY_LIMIT}
+use Rattle.frames.specs.declared.frontend.terminate.TheConstants.{TERMINATE}
+use Rattle.frames.specs.declared.parts.frame.TheConstants.{FRAME_LIMIT}
 use Rattle.frames.specs.declared.front.Front.{Front}
 use Rattle.frames.specs.declared.front.Front.TheVariants as fronts
 use Rattle.frames.specs.declared.back.Back.{Back}

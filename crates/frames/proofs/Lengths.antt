@@ -2,9 +2,9 @@
 use Rattle.std.proofs.Common.{◌≡◌, ℕ, ◌+◌, List, [], ◌∷◌, ◌++◌, length, arith}
 use Rattle.std.specs.Int.{w16, w32, cast_unsigned}
 use Rattle.std.proofs.lemmas.List.{length-append}
-use Rattle.frames.specs.declared.row_description.ColumnDescription.{ColumnDescription}
-use Rattle.frames.specs.declared.data_row.DataValue.{DataValue}
-use Rattle.frames.specs.declared.data_row.DataValue.TheVariants.{Null, Bytes}
+use Rattle.frames.specs.declared.backend.row_description.ColumnDescription.{ColumnDescription}
+use Rattle.frames.specs.declared.backend.data_row.DataValue.{DataValue}
+use Rattle.frames.specs.declared.backend.data_row.DataValue.TheVariants.{Null, Bytes}
 use Rattle.pqformat.specs.Fields.{int16, int32, string}
 use Rattle.frames.specs.RowDescription.{column, column_type}
 use Rattle.frames.specs.DataRow.{data_value, no_length}

@@ -10,10 +10,10 @@ use Rattle.frames.specs.Frame.{Fits, HasBody}
 use Rattle.frames.specs.Plain.{backend_key, backend_key_at}
 use Rattle.frames.specs.Parameter.{parameter, parameter_at, is_empty, FitsParameter, is_parameter_text}
 use Rattle.frames.specs.Startup.{startup_number, startup_body, IsShapedStartup, is_startup_text, startup_limit, parameters_at, startup_at}
-use Rattle.frames.specs.declared.parameter.Parameter.{Parameter}
-use Rattle.frames.specs.declared.startup.Startup.{Startup}
-use Rattle.frames.specs.declared.startup.Startup.TheVariants.{Session, Ssl, Gss, Cancel}
-use Rattle.frames.specs.declared.startup.TheConstants.{STARTUP_LIMIT, PROTOCOL_VERSION, SSL_REQUEST, GSS_REQUEST, CANCEL_REQUEST}
+use Rattle.frames.specs.declared.frontend.parameter.Parameter.{Parameter}
+use Rattle.frames.specs.declared.frontend.startup.Startup.{Startup}
+use Rattle.frames.specs.declared.frontend.startup.Startup.TheVariants.{Session, Ssl, Gss, Cancel}
+use Rattle.frames.specs.declared.frontend.startup.TheConstants.{STARTUP_LIMIT, PROTOCOL_VERSION, SSL_REQUEST, GSS_REQUEST, CANCEL_REQUEST}
 use Rattle.frames.specs.declared.fault.FrameFault.{FrameFault}
 use Rattle.frames.specs.declared.fault.FrameFault.TheVariants.{BadVersion, BadBody, NotUtf8}
 use Rattle.pqformat.proofs.Codec.{done, Codec, field, last_field, codec_of}

@@ -9,9 +9,9 @@ use Rattle.pqformat.specs.Fields.{int32, bytes_at, number_at}
 use Rattle.pqformat.specs.Steps.{◌>>=◌}
 use Rattle.frames.specs.Frame.{HasBody, Gives, whole_of, IsKept}
 use Rattle.frames.specs.Startup.{startup, startup_number, startup_body, IsShapedStartup, is_startup_text, startup_needs_memory, SpellsStartup, startup_limit, is_length, lengthy, numbered, numbered_at, headed_at, raw_startup, startup_at, framed_startup, IsStartupFault}
-use Rattle.frames.specs.declared.startup.Startup.{Startup}
-use Rattle.frames.specs.declared.startup.Startup.TheVariants.{Session, Ssl, Gss, Cancel}
-use Rattle.frames.specs.declared.startup.TheConstants.{STARTUP_LIMIT}
+use Rattle.frames.specs.declared.frontend.startup.Startup.{Startup}
+use Rattle.frames.specs.declared.frontend.startup.Startup.TheVariants.{Session, Ssl, Gss, Cancel}
+use Rattle.frames.specs.declared.frontend.startup.TheConstants.{STARTUP_LIMIT}
 use Rattle.frames.specs.declared.fault.FrameFault.{FrameFault}
 use Rattle.frames.specs.declared.fault.FrameFault.TheVariants.{BadLength, BadVersion, BadBody, NotUtf8, TooLong, Memory}
 use Rattle.pqformat.proofs.Codec.{IsBytes, IsBytes-take, bind_ok, found_some, some_is, done, ok_is}

@@ -4,18 +4,18 @@ use Rattle.std.specs.List.{AllByRecursion, list_all}
 use Rattle.std.specs.Str.{is_utf8}
 use Rattle.frames.specs.declared.back.Back.{Back}
 use Rattle.frames.specs.declared.back.Back.TheVariants.{AuthenticationOk, ParameterStatus, BackendKeyData, ReadyForQuery, CommandComplete, RowDescription, DataRow, ErrorResponse, CopyBothResponse, CopyData, CopyDone}
-use Rattle.frames.specs.declared.authentication_ok.TheConstants.{AUTHENTICATION}
-use Rattle.frames.specs.declared.parameter_status.TheConstants.{PARAMETER_STATUS}
-use Rattle.frames.specs.declared.backend_key_data.TheConstants.{BACKEND_KEY_DATA}
-use Rattle.frames.specs.declared.ready_for_query.TheConstants.{READY_FOR_QUERY}
-use Rattle.frames.specs.declared.command_complete.TheConstants.{COMMAND_COMPLETE}
-use Rattle.frames.specs.declared.row_description.TheConstants.{ROW_DESCRIPTION}
-use Rattle.frames.specs.declared.data_row.TheConstants.{DATA_ROW}
-use Rattle.frames.specs.declared.error_response.TheConstants.{ERROR_RESPONSE}
-use Rattle.frames.specs.declared.copy_both_response.TheConstants.{COPY_BOTH_RESPONSE}
+use Rattle.frames.specs.declared.backend.authentication_ok.TheConstants.{AUTHENTICATION}
+use Rattle.frames.specs.declared.backend.parameter_status.TheConstants.{PARAMETER_STATUS}
+use Rattle.frames.specs.declared.backend.backend_key_data.TheConstants.{BACKEND_KEY_DATA}
+use Rattle.frames.specs.declared.backend.ready_for_query.TheConstants.{READY_FOR_QUERY}
+use Rattle.frames.specs.declared.backend.command_complete.TheConstants.{COMMAND_COMPLETE}
+use Rattle.frames.specs.declared.backend.row_description.TheConstants.{ROW_DESCRIPTION}
+use Rattle.frames.specs.declared.backend.data_row.TheConstants.{DATA_ROW}
+use Rattle.frames.specs.declared.backend.error_response.TheConstants.{ERROR_RESPONSE}
+use Rattle.frames.specs.declared.backend.copy_both_response.TheConstants.{COPY_BOTH_RESPONSE}
 use Rattle.frames.specs.declared.copy_data.TheConstants.{COPY_DATA}
 use Rattle.frames.specs.declared.copy_done.TheConstants.{COPY_DONE}
-use Rattle.frames.specs.declared.frame.TheConstants.{FRAME_LIMIT}
+use Rattle.frames.specs.declared.parts.frame.TheConstants.{FRAME_LIMIT}
 use Rattle.frames.specs.declared.fault.FrameFault.{FrameFault}
 use Rattle.frames.specs.declared.fault.FrameFault.TheVariants.{UnknownType}
 use Rattle.pqformat.specs.Steps.{◌>>=◌, until_at, closed_list}

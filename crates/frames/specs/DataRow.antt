@@ -1,8 +1,8 @@
 -- DataRow (PostgreSQL 15, 55.7): the values of one row, each with its length before it; the length -1 is a null.
 use Rattle.std.specs.Prelude.{ℕ, ◌^◌, ◌<◌, ◌==◌, nat_lt, List, ◌++◌, length, Result, Ok, Err, if◌then◌else◌}
 use Rattle.std.specs.Int.{w32}
-use Rattle.frames.specs.declared.data_row.DataValue.{DataValue}
-use Rattle.frames.specs.declared.data_row.DataValue.TheVariants.{Null, Bytes}
+use Rattle.frames.specs.declared.backend.data_row.DataValue.{DataValue}
+use Rattle.frames.specs.declared.backend.data_row.DataValue.TheVariants.{Null, Bytes}
 use Rattle.pqformat.specs.Fields.{int32, bytes_at, number_at}
 use Rattle.pqformat.specs.Steps.{◌>>=◌}
 use Rattle.frames.specs.Body.{there}

@@ -1,7 +1,7 @@
 -- ErrorResponse (PostgreSQL 15, 55.7 and 55.8): fields, each a code byte and a text, and a zero byte after them.
 use Rattle.std.specs.Prelude.{◌≡◌, ℕ, ◌<◌, ◌==◌, Bool, true, false, not, List, [], ◌∷◌, ◌++◌, Result, Ok}
 use Rattle.std.specs.Str.{is_utf8}
-use Rattle.frames.specs.declared.error_response.ErrorField.{ErrorField}
+use Rattle.frames.specs.declared.backend.error_response.ErrorField.{ErrorField}
 use Rattle.pqformat.specs.Fields.{string, string_at, byte_at, has_zero}
 use Rattle.pqformat.specs.Steps.{◌>>=◌}
 use Rattle.frames.specs.Body.{there}

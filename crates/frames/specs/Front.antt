@@ -3,12 +3,12 @@ use Rattle.std.specs.Prelude.{◌≡◌, ℕ, ◌==◌, Bool, true, false, List,
 use Rattle.std.specs.Str.{is_utf8}
 use Rattle.frames.specs.declared.front.Front.{Front}
 use Rattle.frames.specs.declared.front.Front.TheVariants.{Query, Terminate, CopyData, CopyDone, CopyFail}
-use Rattle.frames.specs.declared.query.TheConstants.{QUERY, QUERY_LIMIT}
-use Rattle.frames.specs.declared.terminate.TheConstants.{TERMINATE}
+use Rattle.frames.specs.declared.frontend.query.TheConstants.{QUERY, QUERY_LIMIT}
+use Rattle.frames.specs.declared.frontend.terminate.TheConstants.{TERMINATE}
 use Rattle.frames.specs.declared.copy_data.TheConstants.{COPY_DATA}
 use Rattle.frames.specs.declared.copy_done.TheConstants.{COPY_DONE}
-use Rattle.frames.specs.declared.copy_fail.TheConstants.{COPY_FAIL}
-use Rattle.frames.specs.declared.frame.TheConstants.{FRAME_LIMIT}
+use Rattle.frames.specs.declared.frontend.copy_fail.TheConstants.{COPY_FAIL}
+use Rattle.frames.specs.declared.parts.frame.TheConstants.{FRAME_LIMIT}
 use Rattle.frames.specs.declared.fault.FrameFault.{FrameFault}
 use Rattle.frames.specs.declared.fault.FrameFault.TheVariants.{UnknownType}
 use Rattle.pqformat.specs.Steps.{◌>>=◌}

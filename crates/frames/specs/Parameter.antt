@@ -1,7 +1,7 @@
 -- A parameter of a session (PostgreSQL 15, 55.7 StartupMessage): its name, which isn't empty, and its value.
 use Rattle.std.specs.Prelude.{◌≡◌, ℕ, Bool, true, false, ◌&&◌, List, [], ◌∷◌, ◌++◌, Result, Ok}
 use Rattle.std.specs.Str.{is_utf8}
-use Rattle.frames.specs.declared.parameter.Parameter.{Parameter}
+use Rattle.frames.specs.declared.frontend.parameter.Parameter.{Parameter}
 use Rattle.pqformat.specs.Fields.{string, string_at, has_zero}
 use Rattle.pqformat.specs.Steps.{◌>>=◌}
 use Rattle.frames.specs.Body.{there}

@@ -2,9 +2,9 @@
 use Rattle.std.specs.Prelude.{ℕ, ◌^◌, ◌==◌, List, [], ◌∷◌, ◌++◌, length, Option, Some, None, Result, Ok, Err, if◌then◌else◌}
 use Rattle.std.specs.List.{flat_map}
 use Rattle.std.specs.Int.{w16, w32}
-use Rattle.frames.specs.declared.ready_for_query.Status.{Status}
-use Rattle.frames.specs.declared.ready_for_query.Status.TheVariants.{Idle, InTransaction, Failed}
-use Rattle.frames.specs.declared.copy_both_response.CopyBothResponse.{CopyBothResponse}
+use Rattle.frames.specs.declared.backend.ready_for_query.Status.{Status}
+use Rattle.frames.specs.declared.backend.ready_for_query.Status.TheVariants.{Idle, InTransaction, Failed}
+use Rattle.frames.specs.declared.backend.copy_both_response.CopyBothResponse.{CopyBothResponse}
 use Rattle.pqformat.specs.Fields.{int16, int32, byte_at, number_at}
 use Rattle.pqformat.specs.Steps.{◌>>=◌, letter_at, count_at, repeat_at}
 use Rattle.frames.specs.Body.{there}

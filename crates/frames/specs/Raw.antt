@@ -1,8 +1,8 @@
 -- A frame's body as the bytes that a reader lends.
 use Rattle.std.specs.Prelude.{ℕ, List, Option, Some, None, Result, Ok, Err, option_map}
 use Rattle.std.specs.Borrow.{Bor}
-use Rattle.frames.specs.declared.data_row.DataValue.{DataValue}
-use Rattle.frames.specs.declared.data_row.DataValue.TheVariants.{Null, Bytes}
+use Rattle.frames.specs.declared.backend.data_row.DataValue.{DataValue}
+use Rattle.frames.specs.declared.backend.data_row.DataValue.TheVariants.{Null, Bytes}
 use Rattle.frames.specs.declared.fault.FrameFault.{FrameFault}
 
 abbrev pub lent : Result (Option (Bor (List ℕ) × ℕ)) FrameFault → Result (Option (List ℕ × ℕ)) FrameFault

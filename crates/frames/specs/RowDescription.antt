@@ -2,8 +2,8 @@
 use Rattle.std.specs.Prelude.{◌≡◌, ℕ, ◌^◌, ◌<◌, Bool, false, List, ◌++◌, Result, Ok, FitsSigned}
 use Rattle.std.specs.Int.{w16, w32, cast_unsigned}
 use Rattle.std.specs.Str.{is_utf8}
-use Rattle.frames.specs.declared.row_description.ColumnDescription.{ColumnDescription}
-use Rattle.frames.specs.declared.row_description.ColumnType.{ColumnType}
+use Rattle.frames.specs.declared.backend.row_description.ColumnDescription.{ColumnDescription}
+use Rattle.frames.specs.declared.backend.row_description.ColumnType.{ColumnType}
 use Rattle.pqformat.specs.Fields.{int16, int32, string, string_at, number_at, has_zero}
 use Rattle.pqformat.specs.Steps.{◌>>=◌, signed_at}
 use Rattle.frames.specs.Body.{there}

@@ -5,24 +5,26 @@ ghost use Rattle.frames.specs.Frame.{FitsLength, frame, Gives, IsKept};
 ghost use Rattle.pqformat.specs.Putting.{Puts};
 ghost use Rattle.frames.specs.Back.{back_kind, back_body, back_limit, back_needs_memory, back_at, list_at, framed_back, SpellsBack, IsShortBack, IsBackFault, HasCounts};
 
-use crate::authentication_ok::{AUTHENTICATION, authentication_of};
-use crate::backend_key_data::{BACKEND_KEY_DATA, BackendKeyData, backend_key_of, put_backend_key};
-use crate::body::{nothing_of, only_text};
-use crate::command_complete::{COMMAND_COMPLETE, CommandComplete};
-use crate::copy_both_response::{COPY_BOTH_RESPONSE, CopyBothResponse, copy_both_of};
-use crate::copy_data::{COPY_DATA, CopyData, copy_data_len, copy_data_of, put_copy_data};
-use crate::copy_done::COPY_DONE;
-use crate::data_row::{DATA_ROW, DataRow, data_row_of};
-use crate::error_response::{ERROR_RESPONSE, ErrorResponse};
-use crate::fault::FrameFault;
-use crate::frame::{FRAME_LIMIT, body_of, put_head};
-use crate::list::{counted_of, items_len, listed, put_closed, put_counted};
-use crate::parameter::Parameter;
-use crate::parameter_status::{
+use crate::backend::authentication_ok::{AUTHENTICATION, authentication_of};
+use crate::backend::backend_key_data::{
+    BACKEND_KEY_DATA, BackendKeyData, backend_key_of, put_backend_key,
+};
+use crate::backend::command_complete::{COMMAND_COMPLETE, CommandComplete};
+use crate::backend::copy_both_response::{COPY_BOTH_RESPONSE, CopyBothResponse, copy_both_of};
+use crate::backend::data_row::{DATA_ROW, DataRow, data_row_of};
+use crate::backend::error_response::{ERROR_RESPONSE, ErrorResponse};
+use crate::backend::parameter_status::{
     PARAMETER_STATUS, parameter_len, parameter_status_of, put_parameter,
 };
-use crate::ready_for_query::{READY_FOR_QUERY, Status, ready_of};
-use crate::row_description::{ROW_DESCRIPTION, RowDescription};
+use crate::backend::ready_for_query::{READY_FOR_QUERY, Status, ready_of};
+use crate::backend::row_description::{ROW_DESCRIPTION, RowDescription};
+use crate::copy_data::{COPY_DATA, CopyData, copy_data_len, copy_data_of, put_copy_data};
+use crate::copy_done::COPY_DONE;
+use crate::fault::FrameFault;
+use crate::frontend::parameter::Parameter;
+use crate::parts::body::{nothing_of, only_text};
+use crate::parts::frame::{FRAME_LIMIT, body_of, put_head};
+use crate::parts::list::{counted_of, items_len, listed, put_closed, put_counted};
 use bytes::BytesMut;
 use pqformat::{Cursor, put_byte, put_int32, put_string, whole_or_nothing};
 use std::alloc::{AllocError, Global};

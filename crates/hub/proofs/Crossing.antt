@@ -10,8 +10,8 @@ use Rattle.std.specs.contracts.alloc.Global as Heap
 use Rattle.std.specs.contracts.boxed.Box as Box
 use Rattle.std.specs.contracts.impls.GlobalAllocator.TheImpl.{ghosts}
 use Rattle.std.proofs.Crossing as heap
-use Rattle.shared_log.specs.declared.name.LogName as log_name
-use Rattle.shared_log.proofs.reader.LogReader.TheSendSync as reader
+use Rattle.shared_log.specs.declared.histories.name.LogName as log_name
+use Rattle.shared_log.proofs.following.reader.LogReader.TheSendSync as reader
 use Rattle.slots.specs.declared.rule.SlotName as slot_name
 use Rattle.reorder.proofs.reorder.Reorder.TheSendSync as reorder
 use Rattle.walsender.proofs.held.outgoing.Outgoing.TheSendSync as outgoing

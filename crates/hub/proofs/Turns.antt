@@ -3,14 +3,14 @@ use Rattle.std.proofs.Common.{◌≡◌, ◌⊎◌, ℕ, ℤ, true, false, List,
 use Rattle.std.proofs.Math.Logic.{∥∥₁_map}
 use Rattle.std.specs.Result.{IsErr, is_err}
 use Rattle.std.specs.declared.option.Option.{Option}
-use Rattle.slots.specs.declared.step.View.{View}
+use Rattle.slots.specs.declared.words_kept.step.View.{View}
 use Rattle.walsender.specs.Sending.{SenderState}
 use Rattle.std.specs.Io.KnownBytes.{Appends}
 use Rattle.wal.specs.declared.record.Record.{Record}
 use mathlib.Core.List.{IsPrefix}
 use Rattle.shared_log.specs.Fronts.{settled_records}
 use Rattle.shared_log.specs.Readers.{seen_of}
-use Rattle.shared_log.specs.declared.reader.LogReader.{LogReader}
+use Rattle.shared_log.specs.declared.following.reader.LogReader.{LogReader}
 use Rattle.wal.specs.Log.{end_of}
 use Rattle.walsender.specs.Turning.{fetched_from}
 use Rattle.server.specs.declared.connection.Phase.TheVariants as phases

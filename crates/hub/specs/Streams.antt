@@ -9,7 +9,7 @@ use Rattle.pgoutput.specs.Words.{word_bytes}
 use Rattle.pgoutput.specs.Items.{keepalive_word}
 use Rattle.publication.specs.Publications.{PublicationSet}
 use Rattle.publication.specs.Choosing.{selected_publications}
-use Rattle.replcmd.specs.declared.setting.StreamOptions.{StreamOptions}
+use Rattle.replcmd.specs.declared.clauses.setting.StreamOptions.{StreamOptions}
 use Rattle.shared_log.specs.Readers.{seen_of}
 use Rattle.walsender.specs.declared.walsender.Walsender.{Walsender}
 use Rattle.walsender.specs.Serving.{Gives, GoesOn}

@@ -6,8 +6,8 @@ use Rattle.shared_log.specs.Fronts.{settled_records}
 use Rattle.shared_log.specs.Readers.{seen_of}
 use Rattle.wal.specs.Log.{end_of}
 use Rattle.slots.specs.Seats.{DidAt}
-use Rattle.slots.specs.declared.step.SlotKind.TheVariants.{Raise}
-use Rattle.slots.specs.declared.step.View.{View}
+use Rattle.slots.specs.declared.words_kept.step.SlotKind.TheVariants.{Raise}
+use Rattle.slots.specs.declared.words_kept.step.View.{View}
 use Rattle.server.specs.declared.connection.Phase.TheVariants as phases
 use Rattle.walsender.specs.declared.walsender.Walsender.{Walsender}
 use Rattle.pgoutput.specs.Words.{word_bytes}

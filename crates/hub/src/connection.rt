@@ -2,4 +2,5 @@
 
 pub(crate) mod backend;
 pub(crate) mod read_loop;
+pub(crate) mod session_copies;
 pub(crate) mod write_loop;

@@ -1,13 +1,13 @@
 -- A row's values, written one after the other.
 use Rattle.std.proofs.Common.{◌≡◌, Bool, true, false, List, [], ◌∷◌, ◌++◌, length, refl, sym, ap, ◌∙◌, append_assoc, arith}
 use Rattle.std.specs.Prelude.{if◌then◌else◌}
-use Rattle.pgoutput.specs.declared.relation.Column.{Column}
-use Rattle.pgoutput.specs.declared.tuple.Cell.{Cell}
-use Rattle.pgoutput.specs.declared.tuple.Cell.TheVariants as cells
+use Rattle.pgoutput.specs.declared.messages.relation.Column.{Column}
+use Rattle.pgoutput.specs.declared.parts.tuple.Cell.{Cell}
+use Rattle.pgoutput.specs.declared.parts.tuple.Cell.TheVariants as cells
 use Rattle.json.specs.Json.{null, Items, item}
 use Rattle.json.specs.Token.{Token, end_array}
 use Rattle.json.specs.Tree.{items_tokens, json_tokens}
-use Rattle.message_lines.specs.declared.part.Part.{Part}
+use Rattle.message_lines.specs.declared.parts.part.Part.{Part}
 use Rattle.message_lines.specs.Rows.{column_json, is_told, with_cell, cells_items, cell_tokens}
 
 first : (part : Part) (c : Column) (cell : Cell) (more : Items) → items_tokens (with_cell part c cell more) ≡ cell_tokens part c cell ++ items_tokens more

@@ -3,20 +3,20 @@ use Rattle.std.proofs.Common.{◌≡◌, ℕ, ◌<◌, ◌^◌, Bool, true, fals
 use Rattle.std.specs.Prelude.{FitsSigned, codes}
 use Rattle.std.specs.Int.{w64}
 use Rattle.std.specs.Str.{is_utf8}
-use Rattle.pgoutput.specs.declared.begin.Begin.{Begin}
-use Rattle.pgoutput.specs.declared.commit.Commit.{Commit}
-use Rattle.pgoutput.specs.declared.delete.Delete.{Delete}
-use Rattle.pgoutput.specs.declared.insert.Insert.{Insert}
-use Rattle.pgoutput.specs.declared.message.Message.{Message}
-use Rattle.pgoutput.specs.declared.old_tuple.OldTuple.{OldTuple}
-use Rattle.pgoutput.specs.declared.relation.Relation.{Relation}
-use Rattle.pgoutput.specs.declared.update.Update.{Update}
+use Rattle.pgoutput.specs.declared.messages.begin.Begin.{Begin}
+use Rattle.pgoutput.specs.declared.messages.commit.Commit.{Commit}
+use Rattle.pgoutput.specs.declared.messages.delete.Delete.{Delete}
+use Rattle.pgoutput.specs.declared.messages.insert.Insert.{Insert}
+use Rattle.pgoutput.specs.declared.messages.message.Message.{Message}
+use Rattle.pgoutput.specs.declared.parts.old_tuple.OldTuple.{OldTuple}
+use Rattle.pgoutput.specs.declared.messages.relation.Relation.{Relation}
+use Rattle.pgoutput.specs.declared.messages.update.Update.{Update}
 use Rattle.json.specs.Json.{Json, boolean, string, object, no_members, member, document}
 use Rattle.replcmd.specs.Position.{position_text}
 use Rattle.replcmd.specs.Reading.{position_of}
 use Rattle.replcmd.proofs.Halves.{printed_is_read}
 use Rattle.replcmd.proofs.Places.{position_again}
-use Rattle.message_lines.specs.declared.part.Part.TheVariants.{Whole}
+use Rattle.message_lines.specs.declared.parts.part.Part.TheVariants.{Whole}
 use Rattle.message_lines.specs.Line.{text_of}
 use Rattle.message_lines.specs.Rows.{AreKinds, row_json}
 use Rattle.message_lines.specs.Changes.{change_members, delete_json, insert_json, old_members, truncate_json, update_json}

@@ -1,7 +1,7 @@
 -- What was sent of an old row, at the end of a line.
 use Rattle.std.proofs.Common.{◌≡◌, [], ◌∷◌, ◌++◌, Option, Some, None, refl}
-use Rattle.pgoutput.specs.declared.relation.Relation.{Relation}
-use Rattle.pgoutput.specs.declared.old_tuple.OldTuple.{OldTuple}
+use Rattle.pgoutput.specs.declared.messages.relation.Relation.{Relation}
+use Rattle.pgoutput.specs.declared.parts.old_tuple.OldTuple.{OldTuple}
 use Rattle.json.specs.Token.{end_object}
 use Rattle.json.specs.Tree.{members_tokens}
 use Rattle.message_lines.specs.Changes.{old_members, old_tokens}

@@ -3,24 +3,24 @@ use Rattle.std.proofs.Common.{◌≡◌, ℕ, ◌<◌, ◌≤◌, ◌^◌, Bool,
 use Rattle.std.specs.Prelude.{FitsSigned, if◌then◌else◌, ◌&&◌}
 use Rattle.std.specs.Int.{w64}
 use Rattle.std.proofs.lemmas.Bool.{and_parts}
-use Rattle.pgoutput.specs.declared.begin.Begin.{Begin}
-use Rattle.pgoutput.specs.declared.commit.Commit.{Commit}
-use Rattle.pgoutput.specs.declared.delete.Delete.{Delete}
-use Rattle.pgoutput.specs.declared.insert.Insert.{Insert}
-use Rattle.pgoutput.specs.declared.message.Message.{Message}
-use Rattle.pgoutput.specs.declared.old_tuple.OldTuple.{OldTuple}
-use Rattle.pgoutput.specs.declared.old_tuple.OldTuple.TheVariants as old
-use Rattle.pgoutput.specs.declared.relation.Column.{Column}
-use Rattle.pgoutput.specs.declared.relation.Relation.{Relation}
-use Rattle.pgoutput.specs.declared.tuple.Cell.{Cell}
-use Rattle.pgoutput.specs.declared.tuple.Cell.TheVariants as cells
-use Rattle.pgoutput.specs.declared.update.Update.{Update}
+use Rattle.pgoutput.specs.declared.messages.begin.Begin.{Begin}
+use Rattle.pgoutput.specs.declared.messages.commit.Commit.{Commit}
+use Rattle.pgoutput.specs.declared.messages.delete.Delete.{Delete}
+use Rattle.pgoutput.specs.declared.messages.insert.Insert.{Insert}
+use Rattle.pgoutput.specs.declared.messages.message.Message.{Message}
+use Rattle.pgoutput.specs.declared.parts.old_tuple.OldTuple.{OldTuple}
+use Rattle.pgoutput.specs.declared.parts.old_tuple.OldTuple.TheVariants as old
+use Rattle.pgoutput.specs.declared.messages.relation.Column.{Column}
+use Rattle.pgoutput.specs.declared.messages.relation.Relation.{Relation}
+use Rattle.pgoutput.specs.declared.parts.tuple.Cell.{Cell}
+use Rattle.pgoutput.specs.declared.parts.tuple.Cell.TheVariants as cells
+use Rattle.pgoutput.specs.declared.messages.update.Update.{Update}
 use Rattle.json.specs.Json.{Json, null, number, Items, item, document}
 use Rattle.json.specs.Tree.{depth, items_depth, members_depth, HasNumbers, ItemsHaveNumbers, MembersHaveNumbers}
 use Rattle.json.proofs.Printed.Decimals.{IsNumber-decimal, IsNumber-signed_decimal}
 use Rattle.json.proofs.Printed.Trees.{document-print}
-use Rattle.message_lines.specs.declared.part.Part.{Part}
-use Rattle.message_lines.specs.declared.part.Part.TheVariants.{Whole, Key}
+use Rattle.message_lines.specs.declared.parts.part.Part.{Part}
+use Rattle.message_lines.specs.declared.parts.part.Part.TheVariants.{Whole, Key}
 use Rattle.message_lines.specs.Line.{text_of}
 use Rattle.message_lines.specs.Kinds.{is_number, kind_name, kind_json}
 use Rattle.message_lines.specs.Values.{is_no_number, is_numeral, is_told_number, told_text, truth_of, truth_or_text, value_json}

@@ -1,18 +1,18 @@
 -- The lines of changes, as users of wal2json's format 2 know them.
 use Rattle.std.specs.Prelude.{ℕ, List, [], ◌∷◌, Option, Some, None, codes}
-use Rattle.pgoutput.specs.declared.relation.Relation.{Relation}
-use Rattle.pgoutput.specs.declared.insert.Insert.{Insert}
-use Rattle.pgoutput.specs.declared.update.Update.{Update}
-use Rattle.pgoutput.specs.declared.delete.Delete.{Delete}
-use Rattle.pgoutput.specs.declared.old_tuple.OldTuple.{OldTuple}
-use Rattle.pgoutput.specs.declared.old_tuple.OldTuple.TheVariants as old
+use Rattle.pgoutput.specs.declared.messages.relation.Relation.{Relation}
+use Rattle.pgoutput.specs.declared.messages.insert.Insert.{Insert}
+use Rattle.pgoutput.specs.declared.messages.update.Update.{Update}
+use Rattle.pgoutput.specs.declared.messages.delete.Delete.{Delete}
+use Rattle.pgoutput.specs.declared.parts.old_tuple.OldTuple.{OldTuple}
+use Rattle.pgoutput.specs.declared.parts.old_tuple.OldTuple.TheVariants as old
 use Rattle.json.specs.Json.{Json, string, object, Members, no_members, member}
 use Rattle.json.specs.Token as token
 use Rattle.json.specs.Token.{Token}
 use Rattle.json.specs.Tree.{json_tokens}
 use Rattle.replcmd.specs.Position.{position_text}
 use Rattle.message_lines.specs.Rows.{row_json}
-use Rattle.message_lines.specs.declared.part.Part.TheVariants.{Whole, Key}
+use Rattle.message_lines.specs.declared.parts.part.Part.TheVariants.{Whole, Key}
 
 -- where in the log it is told, and of which table
 abbrev pub change_members : List ℕ → ℕ → Relation → Members → Members

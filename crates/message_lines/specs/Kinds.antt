@@ -1,7 +1,7 @@
 -- The types of columns, as format_type of PostgreSQL 15 names them, and wal2json after it.
 use Rattle.std.specs.Prelude.{◌==◌, ◌||◌, ◌+◌, ◌-◌, ◌/◌, ◌%◌, ◌++◌, ℕ, ℤ, pos, negsuc, Bool, false, List, Option, Some, None, option_and_then, codes, decimal, nat_lt, if◌then◌else◌}
 use Rattle.json.specs.Json.{Json, number, string}
-use Rattle.message_lines.specs.declared.kinds.TheConstants.{BOOL_OID, BYTEA_OID, CHAR_OID, DATE_OID, INT8_OID, INT2_OID, INT4_OID, NUMERIC_OID, TEXT_OID, TIME_OID, TIMESTAMP_OID, TIMESTAMPTZ_OID, UUID_OID, VARCHAR_OID}
+use Rattle.message_lines.specs.declared.telling.kinds.TheConstants.{BOOL_OID, BYTEA_OID, CHAR_OID, DATE_OID, INT8_OID, INT2_OID, INT4_OID, NUMERIC_OID, TEXT_OID, TIME_OID, TIMESTAMP_OID, TIMESTAMPTZ_OID, UUID_OID, VARCHAR_OID}
 
 abbrev pub unlimited_by_oid : ℕ → Option (List ℕ)
 unlimited_by_oid kind = if kind == CHAR_OID then Some (codes "bpchar") else if kind == VARCHAR_OID then Some (codes "character varying") else if kind == NUMERIC_OID then Some (codes "numeric") else if kind == TIME_OID then Some (codes "time without time zone") else if kind == TIMESTAMP_OID then Some (codes "timestamp without time zone") else if kind == TIMESTAMPTZ_OID then Some (codes "timestamp with time zone") else None

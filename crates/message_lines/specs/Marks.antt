@@ -3,9 +3,9 @@ use Rattle.std.specs.Prelude.{ℕ, Bool, true, false, List, codes, decimal}
 use Rattle.std.specs.Fmt.{signed_decimal}
 use Rattle.std.specs.Str.{is_utf8}
 use Rattle.hex.specs.Hex.{encode_lower}
-use Rattle.pgoutput.specs.declared.begin.Begin.{Begin}
-use Rattle.pgoutput.specs.declared.commit.Commit.{Commit}
-use Rattle.pgoutput.specs.declared.message.Message.{Message}
+use Rattle.pgoutput.specs.declared.messages.begin.Begin.{Begin}
+use Rattle.pgoutput.specs.declared.messages.commit.Commit.{Commit}
+use Rattle.pgoutput.specs.declared.messages.message.Message.{Message}
 use Rattle.json.specs.Json.{Json, boolean, number, string, object, no_members, member}
 use Rattle.replcmd.specs.Position.{position_text}
 

@@ -1,17 +1,17 @@
 -- The values of a row, each with the name and the type of its column.
 use Rattle.std.specs.Prelude.{◌<◌, ◌^◌, Bool, true, List, [], ◌∷◌, ◌++◌, codes, if◌then◌else◌}
-use Rattle.pgoutput.specs.declared.relation.Column.{Column}
-use Rattle.pgoutput.specs.declared.relation.Relation.{Relation}
-use Rattle.pgoutput.specs.declared.tuple.Cell.{Cell}
-use Rattle.pgoutput.specs.declared.tuple.Cell.TheVariants as cells
+use Rattle.pgoutput.specs.declared.messages.relation.Column.{Column}
+use Rattle.pgoutput.specs.declared.messages.relation.Relation.{Relation}
+use Rattle.pgoutput.specs.declared.parts.tuple.Cell.{Cell}
+use Rattle.pgoutput.specs.declared.parts.tuple.Cell.TheVariants as cells
 use Rattle.json.specs.Json.{Json, null, string, array, object, Items, no_items, item, no_members, member}
 use Rattle.json.specs.Token as token
 use Rattle.json.specs.Token.{Token}
 use Rattle.json.specs.Tree.{json_tokens}
 use Rattle.message_lines.specs.Kinds.{kind_name, kind_key, kind_json}
 use Rattle.message_lines.specs.Values.{value_json}
-use Rattle.message_lines.specs.declared.part.Part.{Part}
-use Rattle.message_lines.specs.declared.part.Part.TheVariants.{Whole, Key}
+use Rattle.message_lines.specs.declared.parts.part.Part.{Part}
+use Rattle.message_lines.specs.declared.parts.part.Part.TheVariants.{Whole, Key}
 
 abbrev pub column_json : Column → Json → Json
 column_json c value = object (member (codes "name") (string c.name) (member (kind_key (kind_name c.kind c.modifier)) (kind_json (kind_name c.kind c.modifier) c.kind) (member (codes "value") value no_members)))

@@ -5,7 +5,7 @@ use Rattle.std.specs.Str.{bytes_eq}
 use Rattle.json.specs.Json.{Json, boolean, null, number, string}
 use Rattle.json.specs.Word.{after_number}
 use Rattle.message_lines.specs.Kinds.{is_number}
-use Rattle.message_lines.specs.declared.kinds.TheConstants.{BOOL_OID, BYTEA_OID, NUMERIC_OID}
+use Rattle.message_lines.specs.declared.telling.kinds.TheConstants.{BOOL_OID, BYTEA_OID, NUMERIC_OID}
 
 -- whether what follows a number is there and is nothing
 abbrev pub is_end : Option (List ℕ) → Bool

@@ -8,9 +8,9 @@ ghost use Rattle.message_lines.specs.Changes.{change_front, delete_json, insert_
 ghost use Rattle.std.specs.Prelude.{codes};
 
 use crate::fault::LineFault;
-use crate::members::{closed, opened, put_position, put_text};
-use crate::part::Part;
-use crate::rows::put_row;
+use crate::parts::members::{closed, opened, put_position, put_text};
+use crate::parts::part::Part;
+use crate::parts::rows::put_row;
 use json::Writer;
 use pgoutput::{Delete, Insert, OldTuple, Relation, Update};
 use std::alloc::{AllocError, Global};

@@ -7,7 +7,9 @@ ghost use Rattle.message_lines.specs.Line.{line_of};
 ghost use Rattle.replcmd.specs.Position.{position_text};
 ghost use Rattle.message_lines.specs.Marks.{begin_json, commit_json, content_key, content_text, message_json, summary_json};
 
-use crate::members::{closed, opened, put_number, put_position, put_text, put_time, put_truth};
+use crate::parts::members::{
+    closed, opened, put_number, put_position, put_text, put_time, put_truth,
+};
 use hex::encode;
 use json::Writer;
 use pgoutput::{Begin, Commit, Message};

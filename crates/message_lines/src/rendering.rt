@@ -3,7 +3,7 @@
 ghost use Rattle.std.specs.Prelude.{◌≡◌, IfOk, string_bytes};
 ghost use Rattle.message_lines.specs.Texts.{IsTextOf, begin_text, commit_text};
 
-use crate::cell_text::{Cells, Hex, Name, Quoted, old_letter};
+use crate::parts::cell_text::{Cells, Hex, Name, Quoted, old_letter};
 use pgoutput::{
     Begin, Column, Commit, Delete, Identity, Insert, Logical, Message, NOT_TRANSACTIONAL, Relation,
     TRANSACTIONAL, Truncate, TruncateOptions, Update,

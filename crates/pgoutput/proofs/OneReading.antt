@@ -3,9 +3,9 @@ use Rattle.std.proofs.Common.{◌≡◌, ℕ, ℤ, Bool, true, false, cond, List
 use Rattle.std.specs.List.{AllByRecursion}
 use Rattle.pgoutput.specs.declared.logical.Logical.{Logical}
 use Rattle.pgoutput.specs.declared.logical.Logical.TheVariants as logical
-use Rattle.pgoutput.specs.declared.begin.Begin.{Begin}
-use Rattle.pgoutput.specs.declared.message.Message.{Message}
-use Rattle.pgoutput.specs.declared.relation.Relation.{Relation}
+use Rattle.pgoutput.specs.declared.messages.begin.Begin.{Begin}
+use Rattle.pgoutput.specs.declared.messages.message.Message.{Message}
+use Rattle.pgoutput.specs.declared.messages.relation.Relation.{Relation}
 use Rattle.pgoutput.specs.declared.word.Word.{Word}
 use Rattle.pgoutput.specs.declared.word.Word.TheVariants as words
 use Rattle.pgoutput.specs.declared.word.Keepalive.{Keepalive}

@@ -9,7 +9,7 @@ use Rattle.pqformat.proofs.Numbers.{length-int32, length-int64}
 use Rattle.copyboth.specs.Keepalive.{ask_byte}
 use Rattle.pgoutput.specs.declared.logical.Logical.{Logical}
 use Rattle.pgoutput.specs.declared.logical.Logical.TheVariants as logical
-use Rattle.pgoutput.specs.declared.relation.Relation.{Relation}
+use Rattle.pgoutput.specs.declared.messages.relation.Relation.{Relation}
 use Rattle.pgoutput.specs.Logical.{spell_logical, FitsLogical}
 use Rattle.pgoutput.specs.declared.word.Word.{Word}
 use Rattle.pgoutput.specs.declared.word.Word.TheVariants as words

@@ -5,15 +5,15 @@ use Rattle.std.specs.List.{flat_map, list_any, AllByRecursion}
 use Rattle.pqformat.specs.Fields.{int16}
 use Rattle.pgoutput.specs.declared.fault.PgoutputError.{PgoutputError}
 use Rattle.pgoutput.specs.declared.fault.PgoutputError.TheVariants.{BadMark}
-use Rattle.pgoutput.specs.declared.tuple.Cell.{Cell}
-use Rattle.pgoutput.specs.declared.tuple.Cell.TheVariants as cells
-use Rattle.pgoutput.specs.declared.tuple.TheConstants.{NULL, UNCHANGED, TEXT}
-use Rattle.pgoutput.specs.declared.relation.Identity.TheVariants.{Default}
-use Rattle.pgoutput.specs.declared.relation.TheConstants.{IDENTITY_DEFAULT, IDENTITY_NOTHING, IDENTITY_FULL, IDENTITY_INDEX, KEY_FLAG, NO_FLAG}
-use Rattle.pgoutput.specs.declared.commit.TheConstants.{COMMIT_FLAGS}
-use Rattle.pgoutput.specs.declared.insert.TheConstants.{NEW}
-use Rattle.pgoutput.specs.declared.truncate.TheConstants.{NO_OPTIONS, CASCADE, RESTART_IDENTITY, CASCADE_AND_RESTART_IDENTITY}
-use Rattle.pgoutput.specs.declared.message.TheConstants.{TRANSACTIONAL, NOT_TRANSACTIONAL}
+use Rattle.pgoutput.specs.declared.parts.tuple.Cell.{Cell}
+use Rattle.pgoutput.specs.declared.parts.tuple.Cell.TheVariants as cells
+use Rattle.pgoutput.specs.declared.parts.tuple.TheConstants.{NULL, UNCHANGED, TEXT}
+use Rattle.pgoutput.specs.declared.messages.relation.Identity.TheVariants.{Default}
+use Rattle.pgoutput.specs.declared.messages.relation.TheConstants.{IDENTITY_DEFAULT, IDENTITY_NOTHING, IDENTITY_FULL, IDENTITY_INDEX, KEY_FLAG, NO_FLAG}
+use Rattle.pgoutput.specs.declared.messages.commit.TheConstants.{COMMIT_FLAGS}
+use Rattle.pgoutput.specs.declared.messages.insert.TheConstants.{NEW}
+use Rattle.pgoutput.specs.declared.messages.truncate.TheConstants.{NO_OPTIONS, CASCADE, RESTART_IDENTITY, CASCADE_AND_RESTART_IDENTITY}
+use Rattle.pgoutput.specs.declared.messages.message.TheConstants.{TRANSACTIONAL, NOT_TRANSACTIONAL}
 use Rattle.pgoutput.specs.Reading.{one_of}
 use Rattle.pgoutput.specs.Begin.{begin, FitsBegin, begin_at}
 use Rattle.pgoutput.specs.Commit.{commit, FitsCommit, commit_at}

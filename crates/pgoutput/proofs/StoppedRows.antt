@@ -6,20 +6,20 @@ use Rattle.pqformat.specs.Fields.{int32}
 use Rattle.pqformat.proofs.Codec.{IsBytes, IsBytes-rest}
 use Rattle.pgoutput.specs.declared.fault.PgoutputError.{PgoutputError}
 use Rattle.pgoutput.specs.declared.fault.PgoutputError.TheVariants.{Short, UnknownKind, BadMark}
-use Rattle.pgoutput.specs.declared.tuple.Cell.{Cell}
+use Rattle.pgoutput.specs.declared.parts.tuple.Cell.{Cell}
 use Rattle.pgoutput.specs.declared.logical.Logical.{Logical}
 use Rattle.pgoutput.specs.declared.logical.Logical.TheVariants as logical
-use Rattle.pgoutput.specs.declared.begin.TheConstants.{BEGIN}
-use Rattle.pgoutput.specs.declared.commit.TheConstants.{COMMIT}
-use Rattle.pgoutput.specs.declared.relation.TheConstants.{RELATION}
-use Rattle.pgoutput.specs.declared.insert.TheConstants.{INSERT, NEW}
-use Rattle.pgoutput.specs.declared.update.TheConstants.{UPDATE}
-use Rattle.pgoutput.specs.declared.delete.TheConstants.{DELETE}
-use Rattle.pgoutput.specs.declared.truncate.TheConstants.{TRUNCATE}
-use Rattle.pgoutput.specs.declared.old_tuple.OldTuple.{OldTuple}
-use Rattle.pgoutput.specs.declared.old_tuple.OldTuple.TheVariants as olds
-use Rattle.pgoutput.specs.declared.old_tuple.TheConstants.{KEY, OLD}
-use Rattle.pgoutput.specs.declared.message.TheConstants.{MESSAGE}
+use Rattle.pgoutput.specs.declared.messages.begin.TheConstants.{BEGIN}
+use Rattle.pgoutput.specs.declared.messages.commit.TheConstants.{COMMIT}
+use Rattle.pgoutput.specs.declared.messages.relation.TheConstants.{RELATION}
+use Rattle.pgoutput.specs.declared.messages.insert.TheConstants.{INSERT, NEW}
+use Rattle.pgoutput.specs.declared.messages.update.TheConstants.{UPDATE}
+use Rattle.pgoutput.specs.declared.messages.delete.TheConstants.{DELETE}
+use Rattle.pgoutput.specs.declared.messages.truncate.TheConstants.{TRUNCATE}
+use Rattle.pgoutput.specs.declared.parts.old_tuple.OldTuple.{OldTuple}
+use Rattle.pgoutput.specs.declared.parts.old_tuple.OldTuple.TheVariants as olds
+use Rattle.pgoutput.specs.declared.parts.old_tuple.TheConstants.{KEY, OLD}
+use Rattle.pgoutput.specs.declared.messages.message.TheConstants.{MESSAGE}
 use Rattle.pgoutput.specs.OldTuple.{old_tuple, FitsOldTuple, old_tuple_at}
 use Rattle.pgoutput.specs.Update.{update, FitsUpdate, tuples_at, rows_at, update_at}
 use Rattle.pgoutput.specs.Delete.{delete, FitsDelete, delete_at}

@@ -6,26 +6,26 @@ use Rattle.std.proofs.lemmas.Bool.Decides.{nat_tests}
 use Rattle.pqformat.specs.Steps.{◌>>=◌, repeat_at}
 use Rattle.pgoutput.specs.declared.fault.PgoutputError.{PgoutputError}
 use Rattle.pgoutput.specs.declared.fault.PgoutputError.TheVariants.{Short, UnknownKind, BadMark}
-use Rattle.pgoutput.specs.declared.truncate.Truncate.{Truncate}
+use Rattle.pgoutput.specs.declared.messages.truncate.Truncate.{Truncate}
 use Rattle.pgoutput.specs.Reading.{short, one_of}
-use Rattle.pgoutput.specs.declared.tuple.Cell.{Cell}
-use Rattle.pgoutput.specs.declared.tuple.Cell.TheVariants as cells
-use Rattle.pgoutput.specs.declared.tuple.TheConstants.{NULL, UNCHANGED, TEXT}
-use Rattle.pgoutput.specs.declared.relation.Identity.{Identity}
-use Rattle.pgoutput.specs.declared.relation.Identity.TheVariants.{Default, Nothing, Full, Index}
+use Rattle.pgoutput.specs.declared.parts.tuple.Cell.{Cell}
+use Rattle.pgoutput.specs.declared.parts.tuple.Cell.TheVariants as cells
+use Rattle.pgoutput.specs.declared.parts.tuple.TheConstants.{NULL, UNCHANGED, TEXT}
+use Rattle.pgoutput.specs.declared.messages.relation.Identity.{Identity}
+use Rattle.pgoutput.specs.declared.messages.relation.Identity.TheVariants.{Default, Nothing, Full, Index}
 use Rattle.pgoutput.specs.declared.logical.Logical.{Logical}
 use Rattle.pgoutput.specs.declared.logical.Logical.TheVariants as logical
-use Rattle.pgoutput.specs.declared.begin.TheConstants.{BEGIN}
-use Rattle.pgoutput.specs.declared.commit.TheConstants.{COMMIT, COMMIT_FLAGS}
-use Rattle.pgoutput.specs.declared.relation.TheConstants.{RELATION}
-use Rattle.pgoutput.specs.declared.insert.TheConstants.{INSERT, NEW}
-use Rattle.pgoutput.specs.declared.old_tuple.OldTuple.{OldTuple}
-use Rattle.pgoutput.specs.declared.old_tuple.OldTuple.TheVariants as olds
-use Rattle.pgoutput.specs.declared.old_tuple.TheConstants.{KEY, OLD}
-use Rattle.pgoutput.specs.declared.update.TheConstants.{UPDATE}
-use Rattle.pgoutput.specs.declared.delete.TheConstants.{DELETE}
-use Rattle.pgoutput.specs.declared.truncate.TheConstants.{TRUNCATE}
-use Rattle.pgoutput.specs.declared.message.TheConstants.{MESSAGE}
+use Rattle.pgoutput.specs.declared.messages.begin.TheConstants.{BEGIN}
+use Rattle.pgoutput.specs.declared.messages.commit.TheConstants.{COMMIT, COMMIT_FLAGS}
+use Rattle.pgoutput.specs.declared.messages.relation.TheConstants.{RELATION}
+use Rattle.pgoutput.specs.declared.messages.insert.TheConstants.{INSERT, NEW}
+use Rattle.pgoutput.specs.declared.parts.old_tuple.OldTuple.{OldTuple}
+use Rattle.pgoutput.specs.declared.parts.old_tuple.OldTuple.TheVariants as olds
+use Rattle.pgoutput.specs.declared.parts.old_tuple.TheConstants.{KEY, OLD}
+use Rattle.pgoutput.specs.declared.messages.update.TheConstants.{UPDATE}
+use Rattle.pgoutput.specs.declared.messages.delete.TheConstants.{DELETE}
+use Rattle.pgoutput.specs.declared.messages.truncate.TheConstants.{TRUNCATE}
+use Rattle.pgoutput.specs.declared.messages.message.TheConstants.{MESSAGE}
 use Rattle.pgoutput.specs.Begin.{begin, FitsBegin, begin_at}
 use Rattle.pgoutput.specs.Commit.{commit, FitsCommit, commit_at}
 use Rattle.pgoutput.specs.Relation.{column, FitsColumn, column_at, columns_at, relation, FitsRelation, relation_at, identity_of, identity_letter, is_key_of, key_flag}

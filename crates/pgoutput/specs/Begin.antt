@@ -5,7 +5,7 @@ use Rattle.pqformat.specs.Fields.{int32, int64, number_at}
 use Rattle.pqformat.specs.Steps.{◌>>=◌}
 use Rattle.pgoutput.specs.Reading.{short, signed64_at}
 use Rattle.pgoutput.specs.declared.fault.PgoutputError.{PgoutputError}
-use Rattle.pgoutput.specs.declared.begin.Begin.{Begin}
+use Rattle.pgoutput.specs.declared.messages.begin.Begin.{Begin}
 
 abbrev pub begin : Begin → List ℕ
 begin m = int64 m.position ++ (int64 (cast_unsigned w64 m.time) ++ int32 m.xid)

@@ -5,8 +5,8 @@ use Rattle.pqformat.specs.Fields.{int64, number_at}
 use Rattle.pqformat.specs.Steps.{◌>>=◌}
 use Rattle.pgoutput.specs.Reading.{short, expected_letter, signed64_at}
 use Rattle.pgoutput.specs.declared.fault.PgoutputError.{PgoutputError}
-use Rattle.pgoutput.specs.declared.commit.Commit.{Commit}
-use Rattle.pgoutput.specs.declared.commit.TheConstants.{COMMIT_FLAGS}
+use Rattle.pgoutput.specs.declared.messages.commit.Commit.{Commit}
+use Rattle.pgoutput.specs.declared.messages.commit.TheConstants.{COMMIT_FLAGS}
 
 abbrev pub commit : Commit → List ℕ
 commit m = (COMMIT_FLAGS ∷ []) ++ (int64 m.position ++ (int64 m.end ++ int64 (cast_unsigned w64 m.time)))

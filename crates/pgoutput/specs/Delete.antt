@@ -5,7 +5,7 @@ use Rattle.pqformat.specs.Fields.{int32, number_at}
 use Rattle.pqformat.specs.Steps.{◌>>=◌}
 use Rattle.pgoutput.specs.Reading.{short}
 use Rattle.pgoutput.specs.declared.fault.PgoutputError.{PgoutputError}
-use Rattle.pgoutput.specs.declared.delete.Delete.{Delete}
+use Rattle.pgoutput.specs.declared.messages.delete.Delete.{Delete}
 use Rattle.pgoutput.specs.OldTuple.{old_tuple, FitsOldTuple, IsShortOldTuple, old_tuple_at}
 
 abbrev pub delete : Delete → List ℕ

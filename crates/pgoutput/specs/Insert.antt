@@ -5,8 +5,8 @@ use Rattle.pqformat.specs.Fields.{int32, number_at}
 use Rattle.pqformat.specs.Steps.{◌>>=◌}
 use Rattle.pgoutput.specs.Reading.{short, expected_letter}
 use Rattle.pgoutput.specs.declared.fault.PgoutputError.{PgoutputError}
-use Rattle.pgoutput.specs.declared.insert.Insert.{Insert}
-use Rattle.pgoutput.specs.declared.insert.TheConstants.{NEW}
+use Rattle.pgoutput.specs.declared.messages.insert.Insert.{Insert}
+use Rattle.pgoutput.specs.declared.messages.insert.TheConstants.{NEW}
 use Rattle.pgoutput.specs.Tuple.{tuple, FitsSentTuple, IsShortTuple, sent_tuple_at}
 
 abbrev pub insert : Insert → List ℕ

@@ -6,10 +6,10 @@ use Rattle.std.specs.List.{list_any, AllByRecursion}
 use Rattle.std.specs.Int.{w64}
 use Rattle.pgoutput.specs.declared.logical.Logical.{Logical}
 use Rattle.pgoutput.specs.declared.logical.Logical.TheVariants as logical
-use Rattle.pgoutput.specs.declared.message.Message.{Message}
-use Rattle.pgoutput.specs.declared.relation.Relation.{Relation}
-use Rattle.pgoutput.specs.declared.tuple.Cell.{Cell}
-use Rattle.pgoutput.specs.declared.old_tuple.OldTuple.{OldTuple}
+use Rattle.pgoutput.specs.declared.messages.message.Message.{Message}
+use Rattle.pgoutput.specs.declared.messages.relation.Relation.{Relation}
+use Rattle.pgoutput.specs.declared.parts.tuple.Cell.{Cell}
+use Rattle.pgoutput.specs.declared.parts.old_tuple.OldTuple.{OldTuple}
 use Rattle.pgoutput.specs.OldTuple.{cells_of}
 use Rattle.pgoutput.specs.Logical.{spell_logical, FitsLogical}
 use Rattle.pgoutput.specs.declared.word.Word.{Word}
@@ -17,7 +17,7 @@ use Rattle.pgoutput.specs.declared.word.Word.TheVariants as words
 use Rattle.pgoutput.specs.declared.word.Keepalive.{Keepalive}
 use Rattle.pgoutput.specs.declared.published.Published.{Published}
 use Rattle.pgoutput.specs.declared.published.PublishedChange.{PublishedChange}
-use Rattle.frames.specs.declared.frame.TheConstants.{FRAME_LIMIT}
+use Rattle.frames.specs.declared.parts.frame.TheConstants.{FRAME_LIMIT}
 use Rattle.pgoutput.specs.Words.{frames_of}
 
 pub data Item : Type 0 where

@@ -7,26 +7,26 @@ use Rattle.std.specs.Str.{is_utf8}
 use Rattle.pqformat.specs.Fields.{int16, int32, int64, string, has_zero}
 use Rattle.pgoutput.specs.declared.fault.PgoutputError.{PgoutputError}
 use Rattle.pgoutput.specs.declared.fault.PgoutputError.TheVariants.{Short, BadMark, BadText}
-use Rattle.pgoutput.specs.declared.begin.Begin.{Begin}
-use Rattle.pgoutput.specs.declared.commit.Commit.{Commit}
-use Rattle.pgoutput.specs.declared.commit.TheConstants.{COMMIT_FLAGS}
-use Rattle.pgoutput.specs.declared.relation.Relation.{Relation}
-use Rattle.pgoutput.specs.declared.relation.Column.{Column}
-use Rattle.pgoutput.specs.declared.relation.TheConstants.{IDENTITY_DEFAULT, IDENTITY_NOTHING, IDENTITY_FULL, IDENTITY_INDEX, KEY_FLAG, NO_FLAG}
-use Rattle.pgoutput.specs.declared.tuple.Cell.{Cell}
-use Rattle.pgoutput.specs.declared.tuple.Cell.TheVariants as cells
-use Rattle.pgoutput.specs.declared.tuple.TheConstants.{NULL, UNCHANGED, TEXT}
-use Rattle.pgoutput.specs.declared.old_tuple.OldTuple.{OldTuple}
-use Rattle.pgoutput.specs.declared.old_tuple.OldTuple.TheVariants.{Key, Full}
-use Rattle.pgoutput.specs.declared.old_tuple.TheConstants.{KEY, OLD}
-use Rattle.pgoutput.specs.declared.insert.Insert.{Insert}
-use Rattle.pgoutput.specs.declared.insert.TheConstants.{NEW}
-use Rattle.pgoutput.specs.declared.update.Update.{Update}
-use Rattle.pgoutput.specs.declared.delete.Delete.{Delete}
-use Rattle.pgoutput.specs.declared.truncate.Truncate.{Truncate}
-use Rattle.pgoutput.specs.declared.truncate.TheConstants.{NO_OPTIONS, CASCADE, RESTART_IDENTITY, CASCADE_AND_RESTART_IDENTITY}
-use Rattle.pgoutput.specs.declared.message.Message.{Message}
-use Rattle.pgoutput.specs.declared.message.TheConstants.{TRANSACTIONAL, NOT_TRANSACTIONAL}
+use Rattle.pgoutput.specs.declared.messages.begin.Begin.{Begin}
+use Rattle.pgoutput.specs.declared.messages.commit.Commit.{Commit}
+use Rattle.pgoutput.specs.declared.messages.commit.TheConstants.{COMMIT_FLAGS}
+use Rattle.pgoutput.specs.declared.messages.relation.Relation.{Relation}
+use Rattle.pgoutput.specs.declared.messages.relation.Column.{Column}
+use Rattle.pgoutput.specs.declared.messages.relation.TheConstants.{IDENTITY_DEFAULT, IDENTITY_NOTHING, IDENTITY_FULL, IDENTITY_INDEX, KEY_FLAG, NO_FLAG}
+use Rattle.pgoutput.specs.declared.parts.tuple.Cell.{Cell}
+use Rattle.pgoutput.specs.declared.parts.tuple.Cell.TheVariants as cells
+use Rattle.pgoutput.specs.declared.parts.tuple.TheConstants.{NULL, UNCHANGED, TEXT}
+use Rattle.pgoutput.specs.declared.parts.old_tuple.OldTuple.{OldTuple}
+use Rattle.pgoutput.specs.declared.parts.old_tuple.OldTuple.TheVariants.{Key, Full}
+use Rattle.pgoutput.specs.declared.parts.old_tuple.TheConstants.{KEY, OLD}
+use Rattle.pgoutput.specs.declared.messages.insert.Insert.{Insert}
+use Rattle.pgoutput.specs.declared.messages.insert.TheConstants.{NEW}
+use Rattle.pgoutput.specs.declared.messages.update.Update.{Update}
+use Rattle.pgoutput.specs.declared.messages.delete.Delete.{Delete}
+use Rattle.pgoutput.specs.declared.messages.truncate.Truncate.{Truncate}
+use Rattle.pgoutput.specs.declared.messages.truncate.TheConstants.{NO_OPTIONS, CASCADE, RESTART_IDENTITY, CASCADE_AND_RESTART_IDENTITY}
+use Rattle.pgoutput.specs.declared.messages.message.Message.{Message}
+use Rattle.pgoutput.specs.declared.messages.message.TheConstants.{TRANSACTIONAL, NOT_TRANSACTIONAL}
 use Rattle.pgoutput.specs.declared.logical.Logical.{Logical}
 use Rattle.pgoutput.specs.declared.logical.Logical.TheVariants as logical
 use Rattle.pgoutput.specs.Relation.{identity_letter, key_flag}

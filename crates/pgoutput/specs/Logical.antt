@@ -8,14 +8,14 @@ use Rattle.pgoutput.specs.declared.fault.PgoutputError.{PgoutputError}
 use Rattle.pgoutput.specs.declared.fault.PgoutputError.TheVariants.{UnknownKind, Trailing, Memory}
 use Rattle.pgoutput.specs.declared.logical.Logical.{Logical}
 use Rattle.pgoutput.specs.declared.logical.Logical.TheVariants as logical
-use Rattle.pgoutput.specs.declared.begin.TheConstants.{BEGIN}
-use Rattle.pgoutput.specs.declared.commit.TheConstants.{COMMIT}
-use Rattle.pgoutput.specs.declared.relation.TheConstants.{RELATION}
-use Rattle.pgoutput.specs.declared.insert.TheConstants.{INSERT}
-use Rattle.pgoutput.specs.declared.update.TheConstants.{UPDATE}
-use Rattle.pgoutput.specs.declared.delete.TheConstants.{DELETE}
-use Rattle.pgoutput.specs.declared.truncate.TheConstants.{TRUNCATE}
-use Rattle.pgoutput.specs.declared.message.TheConstants.{MESSAGE}
+use Rattle.pgoutput.specs.declared.messages.begin.TheConstants.{BEGIN}
+use Rattle.pgoutput.specs.declared.messages.commit.TheConstants.{COMMIT}
+use Rattle.pgoutput.specs.declared.messages.relation.TheConstants.{RELATION}
+use Rattle.pgoutput.specs.declared.messages.insert.TheConstants.{INSERT}
+use Rattle.pgoutput.specs.declared.messages.update.TheConstants.{UPDATE}
+use Rattle.pgoutput.specs.declared.messages.delete.TheConstants.{DELETE}
+use Rattle.pgoutput.specs.declared.messages.truncate.TheConstants.{TRUNCATE}
+use Rattle.pgoutput.specs.declared.messages.message.TheConstants.{MESSAGE}
 use Rattle.pgoutput.specs.Begin.{begin, FitsBegin, begin_at}
 use Rattle.pgoutput.specs.Commit.{commit, FitsCommit, commit_at}
 use Rattle.pgoutput.specs.Relation.{relation, FitsRelation, IsShortRelation, relation_at}

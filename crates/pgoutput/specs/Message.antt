@@ -7,8 +7,8 @@ use Rattle.pqformat.specs.Steps.{◌>>=◌}
 use Rattle.pgoutput.specs.Reading.{short, one_of, count32_at, name_at}
 use Rattle.pgoutput.specs.Relation.{FitsName}
 use Rattle.pgoutput.specs.declared.fault.PgoutputError.{PgoutputError}
-use Rattle.pgoutput.specs.declared.message.Message.{Message}
-use Rattle.pgoutput.specs.declared.message.TheConstants.{TRANSACTIONAL, NOT_TRANSACTIONAL}
+use Rattle.pgoutput.specs.declared.messages.message.Message.{Message}
+use Rattle.pgoutput.specs.declared.messages.message.TheConstants.{TRANSACTIONAL, NOT_TRANSACTIONAL}
 
 abbrev pub message_flags : Bool → ℕ
 message_flags true = TRANSACTIONAL

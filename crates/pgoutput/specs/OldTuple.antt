@@ -5,10 +5,10 @@ use Rattle.pqformat.specs.Steps.{◌>>=◌}
 use Rattle.pgoutput.specs.Reading.{short}
 use Rattle.pgoutput.specs.declared.fault.PgoutputError.{PgoutputError}
 use Rattle.pgoutput.specs.declared.fault.PgoutputError.TheVariants.{BadMark}
-use Rattle.pgoutput.specs.declared.tuple.Cell.{Cell}
-use Rattle.pgoutput.specs.declared.old_tuple.OldTuple.{OldTuple}
-use Rattle.pgoutput.specs.declared.old_tuple.OldTuple.TheVariants.{Key, Full}
-use Rattle.pgoutput.specs.declared.old_tuple.TheConstants.{KEY, OLD}
+use Rattle.pgoutput.specs.declared.parts.tuple.Cell.{Cell}
+use Rattle.pgoutput.specs.declared.parts.old_tuple.OldTuple.{OldTuple}
+use Rattle.pgoutput.specs.declared.parts.old_tuple.OldTuple.TheVariants.{Key, Full}
+use Rattle.pgoutput.specs.declared.parts.old_tuple.TheConstants.{KEY, OLD}
 use Rattle.pgoutput.specs.Tuple.{tuple, FitsTuple, IsShortTuple, tuple_at}
 
 abbrev pub cells_of : OldTuple → List Cell

@@ -8,11 +8,11 @@ use Rattle.pqformat.specs.Fields.{int16, int32, string, has_zero, number_at}
 use Rattle.pqformat.specs.Steps.{◌>>=◌, repeat_at}
 use Rattle.pgoutput.specs.Reading.{short, one_of, count16_at, signed32_at, name_at}
 use Rattle.pgoutput.specs.declared.fault.PgoutputError.{PgoutputError}
-use Rattle.pgoutput.specs.declared.relation.Relation.{Relation}
-use Rattle.pgoutput.specs.declared.relation.Column.{Column}
-use Rattle.pgoutput.specs.declared.relation.Identity.{Identity}
-use Rattle.pgoutput.specs.declared.relation.Identity.TheVariants.{Default, Nothing, Full, Index}
-use Rattle.pgoutput.specs.declared.relation.TheConstants.{IDENTITY_DEFAULT, IDENTITY_NOTHING, IDENTITY_FULL, IDENTITY_INDEX, KEY_FLAG, NO_FLAG}
+use Rattle.pgoutput.specs.declared.messages.relation.Relation.{Relation}
+use Rattle.pgoutput.specs.declared.messages.relation.Column.{Column}
+use Rattle.pgoutput.specs.declared.messages.relation.Identity.{Identity}
+use Rattle.pgoutput.specs.declared.messages.relation.Identity.TheVariants.{Default, Nothing, Full, Index}
+use Rattle.pgoutput.specs.declared.messages.relation.TheConstants.{IDENTITY_DEFAULT, IDENTITY_NOTHING, IDENTITY_FULL, IDENTITY_INDEX, KEY_FLAG, NO_FLAG}
 
 abbrev pub identity_letter : Identity → ℕ
 identity_letter Default = IDENTITY_DEFAULT

@@ -7,9 +7,9 @@ use Rattle.pqformat.specs.Fields.{int32, number_at}
 use Rattle.pqformat.specs.Steps.{◌>>=◌, repeat_at}
 use Rattle.pgoutput.specs.Reading.{short, one_of, count32_at}
 use Rattle.pgoutput.specs.declared.fault.PgoutputError.{PgoutputError}
-use Rattle.pgoutput.specs.declared.truncate.Truncate.{Truncate}
-use Rattle.pgoutput.specs.declared.truncate.TruncateOptions.{TruncateOptions}
-use Rattle.pgoutput.specs.declared.truncate.TheConstants.{NO_OPTIONS, CASCADE, RESTART_IDENTITY, CASCADE_AND_RESTART_IDENTITY}
+use Rattle.pgoutput.specs.declared.messages.truncate.Truncate.{Truncate}
+use Rattle.pgoutput.specs.declared.messages.truncate.TruncateOptions.{TruncateOptions}
+use Rattle.pgoutput.specs.declared.messages.truncate.TheConstants.{NO_OPTIONS, CASCADE, RESTART_IDENTITY, CASCADE_AND_RESTART_IDENTITY}
 
 abbrev pub letter_of : (cascade restart_identity : Bool) → ℕ
 letter_of false false = NO_OPTIONS

@@ -5,7 +5,7 @@ use Rattle.std.specs.List.{flat_map}
 use Rattle.std.specs.Int.{w64}
 use Rattle.frames.specs.Frame.{frame}
 use Rattle.frames.specs.declared.copy_data.TheConstants.{COPY_DATA}
-use Rattle.frames.specs.declared.frame.TheConstants.{FRAME_LIMIT}
+use Rattle.frames.specs.declared.parts.frame.TheConstants.{FRAME_LIMIT}
 use Rattle.copyboth.specs.Keepalive.{keepalive}
 use Rattle.copyboth.specs.XLogData.{xlogdata}
 use Rattle.pgoutput.specs.Logical.{spell_logical, FitsLogical}

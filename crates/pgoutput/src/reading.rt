@@ -1,7 +1,7 @@
 //! The law of streams: each has one reading.
 
 ghost use Rattle.std.specs.Prelude.{◌≡◌, ℕ, List, ◌++◌, []};
-ghost use Rattle.pgoutput.specs.declared.relation.Relation.{Relation};
+ghost use Rattle.pgoutput.specs.declared.messages.relation.Relation.{Relation};
 ghost use Rattle.pgoutput.specs.Items.{Item, FitItems, bytes_of_items};
 
 /// A stream has one reading, and so has each beginning of one: items whose spelling begins the spelling of others are

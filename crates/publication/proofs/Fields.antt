@@ -7,14 +7,14 @@ use Rattle.tables.specs.declared.fault.BodyFault.{BodyFault}
 use Rattle.tables.specs.declared.fault.BodyFault.TheVariants.{Trailing}
 use Rattle.tables.specs.declared.kinds.Value.{Value}
 use Rattle.std.specs.Prelude.{IfSome}
-use Rattle.tables.specs.declared.change.Change.{Change}
-use Rattle.tables.specs.declared.change.Change.TheVariants as changes
-use Rattle.tables.specs.declared.change_body.TheConstants.{DELETE_TAG, INSERT_TAG, MESSAGE_TAG, TRUNCATE_TAG, UPDATE_TAG}
+use Rattle.tables.specs.declared.changes.change.Change.{Change}
+use Rattle.tables.specs.declared.changes.change.Change.TheVariants as changes
+use Rattle.tables.specs.declared.changes.change_body.TheConstants.{DELETE_TAG, INSERT_TAG, MESSAGE_TAG, TRUNCATE_TAG, UPDATE_TAG}
 use Rattle.pqformat.proofs.Codec.{IsBytes, bind_ok, passed}
 use Rattle.tables.proofs.ChangeBodies.{body_again, is_found}
 use Rattle.tables.proofs.Lengths.{insert_length, message_length, two_rows_length}
 use Rattle.tables.specs.Spelling.{body_length, row_length}
-use Rattle.tables.specs.declared.message.Message.{Message}
+use Rattle.tables.specs.declared.changes.message.Message.{Message}
 use Rattle.tables.specs.Reading.{SpellsBody, body_at, change_at, change_tagged, insert_at, message_at, oids_at, row_at, update_at}
 use Rattle.publication.specs.Read.{IsReadWhole}
 

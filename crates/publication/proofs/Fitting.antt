@@ -9,17 +9,17 @@ use Rattle.pqformat.specs.Fields.{int32}
 use Rattle.pqformat.proofs.Numbers.{length-int32}
 use Rattle.pgoutput.specs.declared.logical.Logical.{Logical}
 use Rattle.pgoutput.specs.declared.logical.Logical.TheVariants as logical
-use Rattle.pgoutput.specs.declared.tuple.Cell.{Cell}
-use Rattle.pgoutput.specs.declared.old_tuple.OldTuple.{OldTuple}
-use Rattle.pgoutput.specs.declared.old_tuple.OldTuple.TheVariants as olds
+use Rattle.pgoutput.specs.declared.parts.tuple.Cell.{Cell}
+use Rattle.pgoutput.specs.declared.parts.old_tuple.OldTuple.{OldTuple}
+use Rattle.pgoutput.specs.declared.parts.old_tuple.OldTuple.TheVariants as olds
 use Rattle.pgoutput.specs.Tuple.{tuple}
 use Rattle.pgoutput.specs.OldTuple.{cells_of, old_tuple}
-use Rattle.tables.specs.declared.row.TheConstants.{MAX_ROW_LENGTH}
+use Rattle.tables.specs.declared.rows.row.TheConstants.{MAX_ROW_LENGTH}
 use Rattle.tables.specs.declared.kinds.Value.{Value}
 use Rattle.tables.specs.declared.table.Table.{Table}
-use Rattle.tables.specs.declared.change.Change.{Change}
-use Rattle.tables.specs.declared.change.Change.TheVariants as changes
-use Rattle.tables.specs.declared.change_body.TheConstants.{MAX_TRUNCATED}
+use Rattle.tables.specs.declared.changes.change.Change.{Change}
+use Rattle.tables.specs.declared.changes.change.Change.TheVariants as changes
+use Rattle.tables.specs.declared.changes.change_body.TheConstants.{MAX_TRUNCATED}
 use Rattle.tables.specs.Tables.{repeats}
 use Rattle.tables.specs.Kinds.{IsValue}
 use Rattle.tables.specs.Tables.{table_of}

@@ -10,10 +10,10 @@ use Rattle.pgoutput.specs.declared.logical.Logical.{Logical}
 use Rattle.pgoutput.specs.Logical.{FitsLogical, spell_logical}
 use Rattle.pgoutput.specs.Message.{content}
 use Rattle.pgoutput.specs.Items.{IsShortMessage}
-use Rattle.tables.specs.declared.message.TheConstants.{MAX_PREFIX_LENGTH, MAX_CONTENT_LENGTH}
-use Rattle.tables.specs.declared.message.Message.{Message}
-use Rattle.tables.specs.declared.change.Change.{Change}
-use Rattle.tables.specs.declared.change.Change.TheVariants as changes
+use Rattle.tables.specs.declared.changes.message.TheConstants.{MAX_PREFIX_LENGTH, MAX_CONTENT_LENGTH}
+use Rattle.tables.specs.declared.changes.message.Message.{Message}
+use Rattle.tables.specs.declared.changes.change.Change.{Change}
+use Rattle.tables.specs.declared.changes.change.Change.TheVariants as changes
 use Rattle.tables.specs.Kinds.{has_no_zero}
 use Rattle.tables.specs.Tables.{is_prefix}
 use Rattle.publication_config.specs.Published.{PublicationSet}

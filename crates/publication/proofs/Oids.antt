@@ -10,7 +10,7 @@ use Rattle.pqformat.proofs.Numbers.{length-int32}
 use Rattle.std.specs.List.{list_all}
 use Rattle.std.specs.Prelude.{is_some, not}
 use Rattle.std.proofs.lemmas.Bool.{leb-true}
-use Rattle.tables.specs.declared.change_body.TheConstants.{MAX_TRUNCATED}
+use Rattle.tables.specs.declared.changes.change_body.TheConstants.{MAX_TRUNCATED}
 use Rattle.tables.specs.declared.table.Table.{Table}
 use Rattle.tables.specs.Tables.{repeats, table_of}
 use Rattle.publication.specs.Projection.{may_be_emptied}

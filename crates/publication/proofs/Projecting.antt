@@ -9,10 +9,10 @@ use Rattle.pgoutput.specs.Logical.{FitsLogical, SpellsLogical}
 use Rattle.tables.specs.Kinds.{IsValue}
 use Rattle.tables.specs.Reading.{IsCodedMessage, IsCodedOids}
 use Rattle.tables.specs.Spelling.{row_length}
-use Rattle.tables.specs.declared.change_body.TheConstants.{MAX_TRUNCATED}
+use Rattle.tables.specs.declared.changes.change_body.TheConstants.{MAX_TRUNCATED}
 use Rattle.tables.specs.declared.kinds.Value.{Value}
-use Rattle.tables.specs.declared.message.Message.{Message}
-use Rattle.tables.specs.declared.row.TheConstants.{MAX_ROW_LENGTH}
+use Rattle.tables.specs.declared.changes.message.Message.{Message}
+use Rattle.tables.specs.declared.rows.row.TheConstants.{MAX_ROW_LENGTH}
 use Rattle.tables.proofs.Lengths.{coded_row}
 use Rattle.row_messages.specs.Spelling.{IsPut}
 use Rattle.publication.specs.Logged.{fits_log}

@@ -3,13 +3,13 @@
 use Rattle.std.specs.Prelude.{◌≡◌, ℕ, Bool, true, false, ◌&&◌, length, nat_le, Option, Some, None, if◌then◌else◌}
 use Rattle.pgoutput.specs.declared.logical.Logical.{Logical}
 use Rattle.pgoutput.specs.declared.logical.Logical.TheVariants as logical
-use Rattle.pgoutput.specs.declared.message.Message.{Message as Told}
+use Rattle.pgoutput.specs.declared.messages.message.Message.{Message as Told}
 use Rattle.pgoutput.specs.Logical.{FitsLogical}
 use Rattle.pgoutput.specs.Items.{IsShortMessage}
-use Rattle.tables.specs.declared.message.TheConstants.{MAX_CONTENT_LENGTH}
-use Rattle.tables.specs.declared.message.Message.{Message}
-use Rattle.tables.specs.declared.change.Change.{Change}
-use Rattle.tables.specs.declared.change.Change.TheVariants as changes
+use Rattle.tables.specs.declared.changes.message.TheConstants.{MAX_CONTENT_LENGTH}
+use Rattle.tables.specs.declared.changes.message.Message.{Message}
+use Rattle.tables.specs.declared.changes.change.Change.{Change}
+use Rattle.tables.specs.declared.changes.change.Change.TheVariants as changes
 use Rattle.tables.specs.Tables.{is_prefix}
 use Rattle.publication_config.specs.Published.{PublicationSet}
 use Rattle.publication.specs.Projection.{message}

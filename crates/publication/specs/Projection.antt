@@ -5,11 +5,11 @@ use Rattle.std.specs.Str.{is_utf8}
 use Rattle.pgoutput.specs.declared.logical.Logical.{Logical}
 use Rattle.pgoutput.specs.declared.logical.Logical.TheVariants as logical
 use Rattle.pgoutput.specs.Logical.{FitsLogical}
-use Rattle.tables.specs.declared.change_body.TheConstants.{MAX_TRUNCATED}
+use Rattle.tables.specs.declared.changes.change_body.TheConstants.{MAX_TRUNCATED}
 use Rattle.tables.specs.declared.kinds.Value.{Value}
 use Rattle.tables.specs.declared.table.Table.{Table}
-use Rattle.tables.specs.declared.change.Change.{Change}
-use Rattle.tables.specs.declared.change.Change.TheVariants as changes
+use Rattle.tables.specs.declared.changes.change.Change.{Change}
+use Rattle.tables.specs.declared.changes.change.Change.TheVariants as changes
 use Rattle.tables.specs.Tables.{repeats}
 use Rattle.tables.specs.Kinds.{IsValue}
 use Rattle.tables.specs.Tables.{table_of}

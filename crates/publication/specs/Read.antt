@@ -1,7 +1,7 @@
 -- What is read of the bodies of changes.
 use Rattle.std.specs.Prelude.{Result, Ok, [], ◌≡◌, ℕ, ◌≤◌, List}
 use Rattle.tables.specs.declared.fault.BodyFault.{BodyFault}
-use Rattle.tables.specs.declared.row.TheConstants.{MAX_ROW_LENGTH}
+use Rattle.tables.specs.declared.rows.row.TheConstants.{MAX_ROW_LENGTH}
 use Rattle.tables.specs.declared.kinds.Value.{Value}
 use Rattle.tables.specs.Reading.{IsCodedRow}
 use Rattle.tables.specs.Spelling.{row_length}

@@ -1,8 +1,8 @@
 -- The tables of a selection, and what it says of each: its listed columns, and its Relation (PostgreSQL 15, 31.4 and 55.9).
 use Rattle.std.specs.Prelude.{ℕ, Bool, List, [], ◌∷◌, map, filter, Option, Some, None, option_map, if◌then◌else◌}
 use Rattle.std.specs.List.{list_any, AllByRecursion}
-use Rattle.pgoutput.specs.declared.relation.Relation.{Relation}
-use Rattle.pgoutput.specs.declared.relation.Identity.TheVariants as told
+use Rattle.pgoutput.specs.declared.messages.relation.Relation.{Relation}
+use Rattle.pgoutput.specs.declared.messages.relation.Identity.TheVariants as told
 use Rattle.tables.specs.declared.table.Table.{Table}
 use Rattle.tables.specs.Tables.{table_of}
 use Rattle.row_messages.specs.Relations.{FitsTable, relation_of, table_as_published}

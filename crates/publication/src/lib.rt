@@ -3,23 +3,17 @@
 //! `Publications` are what a server has, and `Selection` what one stream chose of them. `Selection::has_message` says whether a
 //! change is published, and `Selection::put` writes its message, filtered and projected.
 //!
-//! Read `publications.rt`, `selection.rt`, `putting.rt`; specs/Logged.antt says which message a change becomes. Above,
+//! Read `publications.rt`, `selection.rt`, `writing/putting.rt`; specs/Logged.antt says which message a change becomes. Above,
 //! `walsender` uses one contract: `put` writes exactly the message of the definition, or none where there is none. `copied.rt` makes the
 //! selection of an initial copy.
 #![tactic(auto)]
 
 mod copied;
-mod judging;
-mod logged;
-mod messages;
-mod passing;
 mod projection;
 mod publications;
-mod put_relation;
-mod putting;
-mod row_reading;
+mod rows;
 mod selection;
-mod truncating;
+mod writing;
 
 pub use projection::Projected;
 pub use publication_config::{Member, Misfit, Place, PubFault, TableMember, explained};

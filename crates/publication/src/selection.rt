@@ -9,7 +9,7 @@ ghost use Rattle.row_messages.specs.Relations.{FitsTable};
 ghost use Rattle.publication.specs.Selection.{has_table, list_by, selected_oids, whole_table};
 ghost use Rattle.publication.specs.Projection.{is_published, may_be_emptied, passes};
 
-use crate::passing::passes;
+use crate::rows::passing::passes;
 use pqformat::Items;
 use publication_config::{Operation, Publication};
 use std::alloc::{AllocError, Global};

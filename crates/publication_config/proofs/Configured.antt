@@ -4,8 +4,8 @@ use Rattle.std.specs.Prelude.{option_map}
 use Rattle.toml.specs.Data.{Data}
 use Rattle.tables.specs.declared.table.Table.{Table}
 use Rattle.catalog.specs.Config.{document_of}
-use Rattle.publication_config.specs.declared.config_fault.Refusal.{Refusal}
-use Rattle.publication_config.specs.declared.config_fault.Refusal.TheVariants as refusals
+use Rattle.publication_config.specs.declared.document.config_fault.Refusal.{Refusal}
+use Rattle.publication_config.specs.declared.document.config_fault.Refusal.TheVariants as refusals
 use Rattle.publication_config.specs.declared.fault.PubFault.{PubFault}
 use Rattle.publication_config.specs.declared.fault.PubFault.TheVariants as faults
 use Rattle.publication_config.specs.Config.{Configures, ReadsPublications, configured_by, fault_of, publications_in}

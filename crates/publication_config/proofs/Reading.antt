@@ -6,7 +6,7 @@ use Rattle.toml.specs.View.{view, items_view}
 use Rattle.toml.specs.declared.value.Value.{Value}
 use Rattle.pqformat.specs.Steps.{◌>>=◌}
 use Rattle.tables.specs.declared.table.Table.{Table}
-use Rattle.publication_config.specs.declared.config_fault.Refusal.{Refusal}
+use Rattle.publication_config.specs.declared.document.config_fault.Refusal.{Refusal}
 use Rattle.publication_config.specs.declared.operations.Operations.{Operations}
 use Rattle.publication_config.specs.declared.publication.Publication.{Publication}
 use Rattle.publication_config.specs.declared.published_table.PublishedTable.{PublishedTable}

@@ -16,18 +16,18 @@ use Rattle.tables.specs.Tables.{table_named}
 use Rattle.conditions.specs.declared.fault.FilterFault.{FilterFault}
 use Rattle.rowfilter.specs.Answers.{read_filter}
 use Rattle.conditions.specs.Conditions.{Condition, names}
-use Rattle.publication_config.specs.declared.config_fault.Place.{Place}
-use Rattle.publication_config.specs.declared.config_fault.Member.{Member}
-use Rattle.publication_config.specs.declared.config_fault.Member.TheVariants as members
-use Rattle.publication_config.specs.declared.config_fault.TableMember.{TableMember}
-use Rattle.publication_config.specs.declared.config_fault.TableMember.TheVariants as table_members
-use Rattle.publication_config.specs.declared.config_fault.Misfit.TheVariants as misfits
-use Rattle.publication_config.specs.declared.config_fault.Refusal.{Refusal}
-use Rattle.publication_config.specs.declared.config_fault.Refusal.TheVariants as refusals
-use Rattle.publication_config.specs.declared.config_fault.Unread.{Unread}
-use Rattle.publication_config.specs.declared.config_fault.Unread.TheVariants as unread
-use Rattle.publication_config.specs.declared.config_publication.Reach.{Reach as Found}
-use Rattle.publication_config.specs.declared.config_publication.Reach.TheVariants as founds
+use Rattle.publication_config.specs.declared.document.config_fault.Place.{Place}
+use Rattle.publication_config.specs.declared.document.config_fault.Member.{Member}
+use Rattle.publication_config.specs.declared.document.config_fault.Member.TheVariants as members
+use Rattle.publication_config.specs.declared.document.config_fault.TableMember.{TableMember}
+use Rattle.publication_config.specs.declared.document.config_fault.TableMember.TheVariants as table_members
+use Rattle.publication_config.specs.declared.document.config_fault.Misfit.TheVariants as misfits
+use Rattle.publication_config.specs.declared.document.config_fault.Refusal.{Refusal}
+use Rattle.publication_config.specs.declared.document.config_fault.Refusal.TheVariants as refusals
+use Rattle.publication_config.specs.declared.document.config_fault.Unread.{Unread}
+use Rattle.publication_config.specs.declared.document.config_fault.Unread.TheVariants as unread
+use Rattle.publication_config.specs.declared.document.config_publication.Reach.{Reach as Found}
+use Rattle.publication_config.specs.declared.document.config_publication.Reach.TheVariants as founds
 use Rattle.publication_config.specs.declared.fault.PubFault.{PubFault}
 use Rattle.publication_config.specs.declared.fault.PubFault.TheVariants as faults
 use Rattle.publication_config.specs.declared.operations.Operation.{Operation}

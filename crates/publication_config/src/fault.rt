@@ -4,7 +4,7 @@ ghost use Rattle.std.specs.Prelude.{◌≡◌};
 ghost use Rattle.publication_config.specs.declared.fault.PubFault.TheVariants.{Memory};
 ghost use Rattle.publication_config.specs.Faults.{publication_code_of};
 
-use crate::config_fault::{Misfit, Place};
+use crate::document::config_fault::{Misfit, Place};
 use rowfilter::FilterFault;
 use std::alloc::{AllocError, AllocFailed};
 use thiserror::Error;

@@ -5,7 +5,7 @@ use Rattle.std.proofs.lemmas.List.{take_at, drop_at}
 use Rattle.std.proofs.lemmas.Nat.{from_be_bytes-to_be_bytes_8}
 use Rattle.pqformat.specs.Fields.{int64}
 use Rattle.pqformat.proofs.Numbers.{length-int64}
-use Rattle.tables.specs.declared.change.Change.{Change}
+use Rattle.tables.specs.declared.changes.change.Change.{Change}
 use Rattle.tables.specs.Spelling.{IsShort, spell_body, body_length}
 use Rattle.tables.specs.Reading.{IsCoded, SpellsBody, body_at}
 use Rattle.tables.proofs.ChangeBodies.{body_again}

@@ -3,8 +3,8 @@ use Rattle.std.specs.Prelude.{◌≡◌, ℕ, ◌<◌, ◌^◌, List, [], ◌++�
 use Rattle.std.specs.Int.{w64, from_be_bytes}
 use Rattle.pqformat.specs.Fields.{int64}
 use Rattle.tables.specs.declared.fault.BodyFault.{BodyFault}
-use Rattle.tables.specs.declared.change.Change.{Change}
-use Rattle.tables.specs.declared.change.Change.TheVariants as changes
+use Rattle.tables.specs.declared.changes.change.Change.{Change}
+use Rattle.tables.specs.declared.changes.change.Change.TheVariants as changes
 use Rattle.tables.specs.Spelling.{spell_body}
 use Rattle.tables.specs.Reading.{IsCoded, body_at}
 use Rattle.wal.specs.Log.{Entry}

@@ -1,7 +1,7 @@
 -- The xids of a transaction, however few they are.
 use Rattle.std.specs.Prelude.{ℕ, List}
-use Rattle.reorder.specs.declared.members.Xids.{Xids}
-use Rattle.reorder.specs.declared.members.Xids.TheVariants as xids
+use Rattle.reorder.specs.declared.places.members.Xids.{Xids}
+use Rattle.reorder.specs.declared.places.members.Xids.TheVariants as xids
 
 -- the transaction's own first
 abbrev pub xids_in : Xids → List ℕ

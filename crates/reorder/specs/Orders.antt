@@ -3,8 +3,8 @@ use Rattle.std.specs.Prelude.{ℕ, List, map}
 use Rattle.std.specs.List.{range_with_len}
 use Rattle.reorder.specs.Ready.{PlaceState}
 use Rattle.reorder.specs.Spots.{place_of}
-use Rattle.reorder.specs.declared.order.Order.{Order}
-use Rattle.reorder.specs.declared.order.Order.TheVariants as orders
+use Rattle.reorder.specs.declared.places.order.Order.{Order}
+use Rattle.reorder.specs.declared.places.order.Order.TheVariants as orders
 
 -- the place of an xid's entry with this number
 abbrev pub place_at : ℕ → ℕ → PlaceState

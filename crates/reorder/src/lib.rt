@@ -8,16 +8,10 @@
 //! transaction's kept changes, in order, also where only a section of the log was read.
 #![tactic(auto)]
 
-mod entry;
 mod fault;
-mod lent;
-mod members;
-mod order;
-mod place;
-mod pool;
+mod places;
 mod ready;
 mod reorder;
-mod spots;
 mod strand;
 mod strands;
 

@@ -4,10 +4,10 @@ ghost use Rattle.std.specs.Prelude.{◌≡◌, ◌<◌, Some, length, slice_get}
 ghost use Rattle.reorder.specs.Lents.{strands_in};
 ghost use Rattle.reorder.specs.Orders.{places_in};
 
-use crate::lent::Lent;
-use crate::members::Members;
-use crate::order::Order;
-use crate::place::Place;
+use crate::places::lent::Lent;
+use crate::places::members::Members;
+use crate::places::order::Order;
+use crate::places::place::Place;
 use std::marker::Model;
 
 /// The changes that a committed transaction keeps, in log order, those of rolled-back subtransactions left out. There are

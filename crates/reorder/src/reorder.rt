@@ -9,8 +9,8 @@ ghost use Rattle.reorder.specs.Ready.{IsEntryAt, IsReadyIn, ReadyState, ready_en
 ghost use Rattle.reorder.specs.Settled.{AreLentIn, FillsReady, LeavesNoRoomBeside, after_giving_all_back, after_giving_back, lent_chunks};
 ghost use Rattle.reorder.specs.Taking.{HasTaken, IsHeld, IsStepApart, IsStepHeld, IsSameTaken, MayCome, Takes, readied_changes};
 
-use crate::entry::{body_of, entry_len, position_of, write_entry};
 use crate::fault::ReorderFault;
+use crate::places::entry::{body_of, entry_len, position_of, write_entry};
 use crate::ready::{CommittedChanges, Step};
 use crate::strands::Strands;
 use bytes::BytesMut;

@@ -18,9 +18,9 @@ ghost use Rattle.reorder.specs.Settled.{heads_of, ready_chunks, ready_heads, wit
 ghost use Rattle.reorder.specs.Strands.{AreDistinct, AreMerged, IsSame, above_of, above_standing, all_in, with_subtransaction, back_in, behind, without_transaction, is_in, by_xid, with_change_of, with_transaction, after_rollback_of, changes_at, with_member};
 
 use crate::fault::ReorderFault;
-use crate::lent::Lent;
-use crate::members::Members;
-use crate::pool::Pool;
+use crate::places::lent::Lent;
+use crate::places::members::Members;
+use crate::places::pool::Pool;
 use crate::ready::CommittedChanges;
 use crate::strand::Strand;
 use chgarena::Arena;

@@ -6,13 +6,13 @@ use Rattle.std.specs.Str.{bytes_eq}
 use Rattle.std.proofs.lemmas.Bool.{eqb-true}
 use Rattle.replcmd.specs.declared.fault.CmdFault.{CmdFault}
 use Rattle.replcmd.specs.declared.fault.CmdFault.TheVariants.{Syntax, Unsupported}
-use Rattle.replcmd.specs.declared.token.Token.{Token}
-use Rattle.replcmd.specs.declared.token.Token.TheVariants.{Word, Quoted, Value, Mark, Unclosed}
-use Rattle.replcmd.specs.declared.token.TheConstants.{OPEN, CLOSE, COMMA}
-use Rattle.replcmd.specs.declared.snapshot.Snapshot.{Snapshot}
-use Rattle.replcmd.specs.declared.snapshot.Snapshot.TheVariants.{Export}
-use Rattle.replcmd.specs.declared.strictness.Strictness.{Strictness}
-use Rattle.replcmd.specs.declared.strictness.Strictness.TheVariants.{Strict, Lenient}
+use Rattle.replcmd.specs.declared.text.token.Token.{Token}
+use Rattle.replcmd.specs.declared.text.token.Token.TheVariants.{Word, Quoted, Value, Mark, Unclosed}
+use Rattle.replcmd.specs.declared.text.token.TheConstants.{OPEN, CLOSE, COMMA}
+use Rattle.replcmd.specs.declared.clauses.snapshot.Snapshot.{Snapshot}
+use Rattle.replcmd.specs.declared.clauses.snapshot.Snapshot.TheVariants.{Export}
+use Rattle.replcmd.specs.declared.clauses.strictness.Strictness.{Strictness}
+use Rattle.replcmd.specs.declared.clauses.strictness.Strictness.TheVariants.{Strict, Lenient}
 use Rattle.replcmd.specs.Words.{is_keyword, is_truth, lower}
 use Rattle.replcmd.specs.Snapshots.{may_say, said_snapshot, snapshot_keyword, snapshot_named, snapshot_value}
 use Rattle.replcmd.specs.Grammar.{Part, Keyword, Quote, Truth, Sign, IsEnd, Follows, IsFlag, Plain, Flagged, IsEnding, Unsaid, ByKeyword, ByOption, BeforeTwoPhase, BehindTwoPhase, TwoPhaseAlone, snapshot_parts, two_phase_parts}

@@ -3,9 +3,9 @@ use Rattle.std.proofs.Common.{◌≡◌, ◌≢◌, ℕ, zero, suc, ◌<◌, Boo
 use Rattle.std.specs.Prelude.{◌||◌, not}
 use Rattle.std.proofs.lemmas.Bool.Decides.{nat_tests}
 use Rattle.std.proofs.lemmas.List.{append-nil, length-append}
-use Rattle.replcmd.specs.declared.token.Token.{Token}
-use Rattle.replcmd.specs.declared.token.Token.TheVariants.{Word, Quoted, Value, Mark, Unclosed}
-use Rattle.replcmd.specs.declared.token.TheConstants.{NAME_QUOTE, VALUE_QUOTE}
+use Rattle.replcmd.specs.declared.text.token.Token.{Token}
+use Rattle.replcmd.specs.declared.text.token.Token.TheVariants.{Word, Quoted, Value, Mark, Unclosed}
+use Rattle.replcmd.specs.declared.text.token.TheConstants.{NAME_QUOTE, VALUE_QUOTE}
 use Rattle.replcmd.specs.Tokens.{is_blank, is_mark, is_plain, spelling_of_token, Each, IsWhole, StartsWith, Spells}
 use Rattle.pqformat.specs.Quoting.{begins, quoted_at}
 use Rattle.replcmd.specs.Lexing.{after_blanks, word_of, after_word, closed_token, token_from, token_at, Lexes}

@@ -4,11 +4,11 @@ use Rattle.std.specs.Option.{ok_or}
 use Rattle.std.proofs.lemmas.Bool.{eqb-true}
 use Rattle.replcmd.specs.declared.fault.CmdFault.{CmdFault}
 use Rattle.replcmd.specs.declared.fault.CmdFault.TheVariants.{Syntax}
-use Rattle.replcmd.specs.declared.token.Token.{Token}
-use Rattle.replcmd.specs.declared.token.Token.TheVariants.{Word, Quoted, Value, Mark, Unclosed}
-use Rattle.replcmd.specs.declared.token.TheConstants.{OPEN, CLOSE, COMMA}
-use Rattle.replcmd.specs.declared.setting.Setting.{Setting}
-use Rattle.replcmd.specs.declared.strictness.Strictness.{Strictness}
+use Rattle.replcmd.specs.declared.text.token.Token.{Token}
+use Rattle.replcmd.specs.declared.text.token.Token.TheVariants.{Word, Quoted, Value, Mark, Unclosed}
+use Rattle.replcmd.specs.declared.text.token.TheConstants.{OPEN, CLOSE, COMMA}
+use Rattle.replcmd.specs.declared.clauses.setting.Setting.{Setting}
+use Rattle.replcmd.specs.declared.clauses.strictness.Strictness.{Strictness}
 use Rattle.replcmd.specs.Grammar.{Part, Named, Chosen, Sign, IsEnd, Follows, setting_parts}
 use Rattle.replcmd.specs.Commands.{if_open, in_brackets, more_settings, options_at, settings_at}
 use Rattle.replcmd.specs.Reading.{◌>>=◌, name_of, name_at, past_mark, separated_items}

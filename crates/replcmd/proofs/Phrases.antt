@@ -4,10 +4,10 @@ use Rattle.std.specs.Prelude.{codes}
 use Rattle.std.specs.Option.{ok_or}
 use Rattle.std.specs.Str.{bytes_eq}
 use Rattle.replcmd.specs.declared.fault.CmdFault.TheVariants.{Syntax, Unsupported}
-use Rattle.replcmd.specs.declared.token.Token.{Token}
-use Rattle.replcmd.specs.declared.token.Token.TheVariants.{Word, Quoted, Value, Mark, Unclosed}
-use Rattle.replcmd.specs.declared.verb.Verb.{Verb}
-use Rattle.replcmd.specs.declared.verb.Verb.TheVariants as verb
+use Rattle.replcmd.specs.declared.text.token.Token.{Token}
+use Rattle.replcmd.specs.declared.text.token.Token.TheVariants.{Word, Quoted, Value, Mark, Unclosed}
+use Rattle.replcmd.specs.declared.text.verb.Verb.{Verb}
+use Rattle.replcmd.specs.declared.text.verb.Verb.TheVariants as verb
 use Rattle.replcmd.specs.Words.{lower, is_keyword}
 use Rattle.replcmd.specs.Grammar.{Part, Keyword, Named, Follows}
 use Rattle.replcmd.specs.Commands.{plugin_at}

@@ -6,9 +6,9 @@ use Rattle.std.proofs.lemmas.Bool.{eqb-true, eq-eqb, ne_eqb}
 use Rattle.std.proofs.lemmas.List.{append-nil, length-append}
 use Rattle.replcmd.specs.declared.fault.CmdFault.TheVariants.{BadOption}
 use Rattle.replcmd.specs.declared.fault.OptionFault.TheVariants.{PublicationNames}
-use Rattle.replcmd.specs.declared.token.Token.{Token}
-use Rattle.replcmd.specs.declared.token.Token.TheVariants.{Unclosed}
-use Rattle.replcmd.specs.declared.token.TheConstants.{COMMA}
+use Rattle.replcmd.specs.declared.text.token.Token.{Token}
+use Rattle.replcmd.specs.declared.text.token.Token.TheVariants.{Unclosed}
+use Rattle.replcmd.specs.declared.text.token.TheConstants.{COMMA}
 use Rattle.replcmd.specs.Tokens.{is_blank, Each, StartsWith}
 use Rattle.replcmd.specs.Lexing.{after_blanks, token_at}
 use Rattle.replcmd.specs.Words.{IsName}

@@ -5,10 +5,10 @@ use Rattle.std.specs.Str.{bytes_eq}
 use Rattle.std.specs.Cmp.Lexicographic.{bytes_decides}
 use Rattle.std.proofs.lemmas.Bool.{eqb-true, eq-eqb}
 use Rattle.replcmd.specs.declared.fault.CmdFault.TheVariants.{Syntax, BadName, BadPosition}
-use Rattle.replcmd.specs.declared.token.Token.{Token}
-use Rattle.replcmd.specs.declared.token.Token.TheVariants.{Word, Quoted, Value, Mark, Unclosed}
-use Rattle.replcmd.specs.declared.token.TheConstants.{SEMICOLON}
-use Rattle.replcmd.specs.declared.verb.Verb.{Verb}
+use Rattle.replcmd.specs.declared.text.token.Token.{Token}
+use Rattle.replcmd.specs.declared.text.token.Token.TheVariants.{Word, Quoted, Value, Mark, Unclosed}
+use Rattle.replcmd.specs.declared.text.token.TheConstants.{SEMICOLON}
+use Rattle.replcmd.specs.declared.text.verb.Verb.{Verb}
 use Rattle.replcmd.specs.Position.{SpellsPosition}
 use Rattle.replcmd.specs.Words.{lower, is_keyword, is_bare, IsName, is_slot_name}
 use Rattle.replcmd.specs.Grammar.{Part, Keyword, Named, At, IsEnd, Follows}

@@ -8,14 +8,14 @@ use Rattle.std.specs.Str.{bytes_eq}
 use Rattle.std.proofs.lemmas.List.Sums.{sum_by-cons}
 use Rattle.replcmd.specs.declared.fault.CmdFault.TheVariants.{BadOption}
 use Rattle.replcmd.specs.declared.fault.OptionFault.TheVariants as wrong
-use Rattle.replcmd.specs.declared.token.Token.{Token}
-use Rattle.replcmd.specs.declared.token.Token.TheVariants.{Value}
-use Rattle.replcmd.specs.declared.setting.Setting.{Setting}
-use Rattle.replcmd.specs.declared.setting.Setting.TheVariants.{Version, Publications, Messages, Declined}
+use Rattle.replcmd.specs.declared.text.token.Token.{Token}
+use Rattle.replcmd.specs.declared.text.token.Token.TheVariants.{Value}
+use Rattle.replcmd.specs.declared.clauses.setting.Setting.{Setting}
+use Rattle.replcmd.specs.declared.clauses.setting.Setting.TheVariants.{Version, Publications, Messages, Declined}
 use Rattle.replcmd.specs.declared.fault.Unserved.{Unserved}
 use Rattle.replcmd.specs.declared.fault.Unserved.TheVariants.{Binary, Streaming, TwoPhase}
-use Rattle.replcmd.specs.declared.setting.StreamOptions.{StreamOptions}
-use Rattle.replcmd.specs.declared.strictness.Strictness.{Strictness}
+use Rattle.replcmd.specs.declared.clauses.setting.StreamOptions.{StreamOptions}
+use Rattle.replcmd.specs.declared.clauses.strictness.Strictness.{Strictness}
 use Rattle.replcmd.specs.Reading.{◌>>=◌, name_at, value_at, names_of, truth_of}
 use Rattle.replcmd.specs.Settings.{AreSettings, ComesTo, IsValue, declined_at, declines, declines_twice, discontent, is_content, is_served_version, is_version, messages_at, messages_of, option_name, options_of_settings, other_version, publications_at, publications_of, setting_at, stream_options, told_options, unserved_at, unserved_name, unserved_of, version_at}
 use Rattle.replcmd.proofs.Lists.{found, same_found, bind_ok}

@@ -9,9 +9,9 @@ use Rattle.std.proofs.Math.Seq.{get_or-append_seam, drop-append-add}
 use Rattle.replcmd.specs.Tokens.{is_blank, is_mark, is_plain, spelling_of_token, Each, IsWhole}
 use Rattle.pqformat.specs.Quoting.{with_doubled_quotes, begins, quoted_at}
 use Rattle.replcmd.specs.Lexing.{after_blanks, word_of, after_word, token_at}
-use Rattle.replcmd.specs.declared.token.Token.{Token}
-use Rattle.replcmd.specs.declared.token.Token.TheVariants.{Word, Quoted, Value, Mark, Unclosed}
-use Rattle.replcmd.specs.declared.token.TheConstants.{NAME_QUOTE, VALUE_QUOTE}
+use Rattle.replcmd.specs.declared.text.token.Token.{Token}
+use Rattle.replcmd.specs.declared.text.token.Token.TheVariants.{Word, Quoted, Value, Mark, Unclosed}
+use Rattle.replcmd.specs.declared.text.token.TheConstants.{NAME_QUOTE, VALUE_QUOTE}
 use Rattle.replcmd.proofs.Pieces.{word_takes}
 use Rattle.pqformat.proofs.Quoting.{found, quoted_takes}
 use Rattle.replcmd.proofs.Lexemes.{token_found, token_takes, unclosed_at_end}

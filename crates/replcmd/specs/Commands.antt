@@ -5,16 +5,16 @@ use Rattle.std.specs.Option.{ok_or}
 use Rattle.std.specs.Str.{bytes_eq}
 use Rattle.replcmd.specs.declared.fault.CmdFault.{CmdFault}
 use Rattle.replcmd.specs.declared.fault.CmdFault.TheVariants.{Syntax, Unsupported}
-use Rattle.replcmd.specs.declared.token.Token.{Token}
-use Rattle.replcmd.specs.declared.token.Token.TheVariants.{Word, Value, Mark}
-use Rattle.replcmd.specs.declared.token.TheConstants.{OPEN, CLOSE, COMMA}
-use Rattle.replcmd.specs.declared.verb.Verb.{Verb}
-use Rattle.replcmd.specs.declared.verb.Verb.TheVariants as verb
-use Rattle.replcmd.specs.declared.setting.Setting.{Setting}
-use Rattle.replcmd.specs.declared.snapshot.Snapshot.{Snapshot}
-use Rattle.replcmd.specs.declared.snapshot.Snapshot.TheVariants.{Export}
-use Rattle.replcmd.specs.declared.strictness.Strictness.{Strictness}
-use Rattle.replcmd.specs.declared.strictness.Strictness.TheVariants.{Strict, Lenient}
+use Rattle.replcmd.specs.declared.text.token.Token.{Token}
+use Rattle.replcmd.specs.declared.text.token.Token.TheVariants.{Word, Value, Mark}
+use Rattle.replcmd.specs.declared.text.token.TheConstants.{OPEN, CLOSE, COMMA}
+use Rattle.replcmd.specs.declared.text.verb.Verb.{Verb}
+use Rattle.replcmd.specs.declared.text.verb.Verb.TheVariants as verb
+use Rattle.replcmd.specs.declared.clauses.setting.Setting.{Setting}
+use Rattle.replcmd.specs.declared.clauses.snapshot.Snapshot.{Snapshot}
+use Rattle.replcmd.specs.declared.clauses.snapshot.Snapshot.TheVariants.{Export}
+use Rattle.replcmd.specs.declared.clauses.strictness.Strictness.{Strictness}
+use Rattle.replcmd.specs.declared.clauses.strictness.Strictness.TheVariants.{Strict, Lenient}
 use Rattle.replcmd.specs.declared.command.Command.{Command}
 use Rattle.replcmd.specs.declared.command.Command.TheVariants.{Identify, Create, Start, Drop}
 use Rattle.replcmd.specs.Lexing.{Lexes}

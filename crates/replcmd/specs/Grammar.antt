@@ -10,14 +10,14 @@
 -- sent once they are committed, whatever is asked. Those of a stream are those of pgoutput (PostgreSQL 15, 55.5): `proto_version` and `publication_names`, which are needed, and
 -- `messages`. Where a command is read strictly, it asks for what is served and no more.
 use Rattle.std.specs.Prelude.{◌≡◌, ℕ, List, [], ◌∷◌, ◌++◌, Bool, true, codes}
-use Rattle.replcmd.specs.declared.token.Token.{Token}
-use Rattle.replcmd.specs.declared.token.Token.TheVariants.{Word, Value, Mark}
-use Rattle.replcmd.specs.declared.token.TheConstants.{OPEN, CLOSE, COMMA, SEMICOLON}
-use Rattle.replcmd.specs.declared.setting.Setting.{Setting}
-use Rattle.replcmd.specs.declared.snapshot.Snapshot.{Snapshot}
-use Rattle.replcmd.specs.declared.snapshot.Snapshot.TheVariants.{Export}
-use Rattle.replcmd.specs.declared.strictness.Strictness.{Strictness}
-use Rattle.replcmd.specs.declared.strictness.Strictness.TheVariants.{Lenient}
+use Rattle.replcmd.specs.declared.text.token.Token.{Token}
+use Rattle.replcmd.specs.declared.text.token.Token.TheVariants.{Word, Value, Mark}
+use Rattle.replcmd.specs.declared.text.token.TheConstants.{OPEN, CLOSE, COMMA, SEMICOLON}
+use Rattle.replcmd.specs.declared.clauses.setting.Setting.{Setting}
+use Rattle.replcmd.specs.declared.clauses.snapshot.Snapshot.{Snapshot}
+use Rattle.replcmd.specs.declared.clauses.snapshot.Snapshot.TheVariants.{Export}
+use Rattle.replcmd.specs.declared.clauses.strictness.Strictness.{Strictness}
+use Rattle.replcmd.specs.declared.clauses.strictness.Strictness.TheVariants.{Lenient}
 use Rattle.replcmd.specs.declared.command.Command.{Command}
 use Rattle.replcmd.specs.declared.command.Command.TheVariants.{Identify, Create, Start, Drop}
 use Rattle.replcmd.specs.Position.{SpellsPosition}

@@ -1,8 +1,8 @@
 -- The value of publication_names (PostgreSQL 15, 55.4): names with commas between them, and any blanks round each, as in all lists of
 -- names that PostgreSQL takes.
 use Rattle.std.specs.Prelude.{ℕ, List, [], ◌∷◌, ◌++◌}
-use Rattle.replcmd.specs.declared.token.Token.{Token}
-use Rattle.replcmd.specs.declared.token.TheConstants.{COMMA}
+use Rattle.replcmd.specs.declared.text.token.Token.{Token}
+use Rattle.replcmd.specs.declared.text.token.TheConstants.{COMMA}
 use Rattle.replcmd.specs.Tokens.{is_blank, Each, StartsWith}
 use Rattle.replcmd.specs.Words.{IsName}
 

@@ -11,14 +11,14 @@ use Rattle.std.specs.Str.Parse.{digits_value}
 use Rattle.replcmd.specs.declared.fault.CmdFault.{CmdFault}
 use Rattle.replcmd.specs.declared.fault.CmdFault.TheVariants.{Syntax, BadName, BadPosition, Unsupported, BadOption, Memory}
 use Rattle.replcmd.specs.declared.fault.OptionFault.TheVariants.{PublicationNames}
-use Rattle.replcmd.specs.declared.token.Token.{Token}
-use Rattle.replcmd.specs.declared.token.Token.TheVariants.{Word, Quoted, Value, Mark}
-use Rattle.replcmd.specs.declared.token.TheConstants.{COMMA, SEMICOLON}
-use Rattle.replcmd.specs.declared.verb.Verb.{Verb}
-use Rattle.replcmd.specs.declared.verb.Verb.TheVariants as verb
-use Rattle.replcmd.specs.declared.strictness.Strictness.{Strictness}
-use Rattle.replcmd.specs.declared.snapshot.Snapshot.{Snapshot}
-use Rattle.replcmd.specs.declared.snapshot.Snapshot.TheVariants.{Export}
+use Rattle.replcmd.specs.declared.text.token.Token.{Token}
+use Rattle.replcmd.specs.declared.text.token.Token.TheVariants.{Word, Quoted, Value, Mark}
+use Rattle.replcmd.specs.declared.text.token.TheConstants.{COMMA, SEMICOLON}
+use Rattle.replcmd.specs.declared.text.verb.Verb.{Verb}
+use Rattle.replcmd.specs.declared.text.verb.Verb.TheVariants as verb
+use Rattle.replcmd.specs.declared.clauses.strictness.Strictness.{Strictness}
+use Rattle.replcmd.specs.declared.clauses.snapshot.Snapshot.{Snapshot}
+use Rattle.replcmd.specs.declared.clauses.snapshot.Snapshot.TheVariants.{Export}
 use Rattle.replcmd.specs.Lexing.{after_blanks, token_at}
 use Rattle.replcmd.specs.Snapshots.{said_snapshot}
 use Rattle.replcmd.specs.Words.{lower, is_keyword, is_truth, is_bare, is_slot_name}

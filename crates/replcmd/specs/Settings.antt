@@ -7,16 +7,16 @@ use Rattle.std.specs.Option.{ok_or, unwrap_or, is_some}
 use Rattle.std.specs.Str.{bytes_eq}
 use Rattle.replcmd.specs.declared.fault.CmdFault.{CmdFault}
 use Rattle.replcmd.specs.declared.fault.CmdFault.TheVariants.{BadOption}
-use Rattle.replcmd.specs.declared.token.Token.{Token}
-use Rattle.replcmd.specs.declared.setting.Setting.{Setting}
-use Rattle.replcmd.specs.declared.setting.Setting.TheVariants.{Version, Publications, Messages, Declined}
+use Rattle.replcmd.specs.declared.text.token.Token.{Token}
+use Rattle.replcmd.specs.declared.clauses.setting.Setting.{Setting}
+use Rattle.replcmd.specs.declared.clauses.setting.Setting.TheVariants.{Version, Publications, Messages, Declined}
 use Rattle.replcmd.specs.declared.fault.Unserved.{Unserved}
 use Rattle.replcmd.specs.declared.fault.Unserved.TheVariants.{Binary, Streaming, TwoPhase}
 use Rattle.replcmd.specs.declared.fault.OptionFault.{OptionFault}
 use Rattle.replcmd.specs.declared.fault.OptionFault.TheVariants as wrong
-use Rattle.replcmd.specs.declared.strictness.Strictness.{Strictness}
-use Rattle.replcmd.specs.declared.strictness.Strictness.TheVariants.{Strict, Lenient}
-use Rattle.replcmd.specs.declared.setting.StreamOptions.{StreamOptions}
+use Rattle.replcmd.specs.declared.clauses.strictness.Strictness.{Strictness}
+use Rattle.replcmd.specs.declared.clauses.strictness.Strictness.TheVariants.{Strict, Lenient}
+use Rattle.replcmd.specs.declared.clauses.setting.StreamOptions.{StreamOptions}
 use Rattle.replcmd.specs.Publications.{SpellsNames}
 use Rattle.replcmd.specs.Reading.{◌>>=◌, name_at, value_at, names_of, truth_of}
 use Rattle.replcmd.specs.Words.{is_truth}

@@ -2,10 +2,10 @@
 -- how either is read.
 use Rattle.std.specs.Prelude.{ℕ, List, Option, Some, None, Bool, true, false, if◌then◌else◌, codes}
 use Rattle.std.specs.Str.{bytes_eq}
-use Rattle.replcmd.specs.declared.snapshot.Snapshot.{Snapshot}
-use Rattle.replcmd.specs.declared.snapshot.Snapshot.TheVariants.{Export, Nothing, Use}
-use Rattle.replcmd.specs.declared.strictness.Strictness.{Strictness}
-use Rattle.replcmd.specs.declared.strictness.Strictness.TheVariants.{Strict, Lenient}
+use Rattle.replcmd.specs.declared.clauses.snapshot.Snapshot.{Snapshot}
+use Rattle.replcmd.specs.declared.clauses.snapshot.Snapshot.TheVariants.{Export, Nothing, Use}
+use Rattle.replcmd.specs.declared.clauses.strictness.Strictness.{Strictness}
+use Rattle.replcmd.specs.declared.clauses.strictness.Strictness.TheVariants.{Strict, Lenient}
 use Rattle.replcmd.specs.Words.{is_keyword}
 
 abbrev pub snapshot_keyword : Snapshot → List ℕ

@@ -3,7 +3,7 @@ use Rattle.std.specs.Prelude.{◌≡◌, ℕ, List, Option, Bool, not, ◌||◌,
 use Rattle.std.specs.List.{filter_map, find}
 use Rattle.std.specs.Option.{is_some}
 use Rattle.std.specs.Str.{bytes_eq}
-use Rattle.replcmd.specs.declared.token.Token.{Token}
+use Rattle.replcmd.specs.declared.text.token.Token.{Token}
 use Rattle.replcmd.specs.Lexing.{Lexes}
 use Rattle.replcmd.specs.Reading.{name_of}
 use Rattle.replcmd.specs.Settings.{unserved_of}

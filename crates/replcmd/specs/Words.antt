@@ -4,9 +4,9 @@ use Rattle.std.specs.Prelude.{◌≡◌, ℕ, ◌==◌, nat_lt, nat_le, List, []
 use Rattle.std.specs.List.{list_all}
 use Rattle.std.specs.Char.{to_ascii_lowercase, is_ascii_alphabetic, is_ascii_alphanumeric, is_ascii_lowercase, is_ascii_digit}
 use Rattle.std.specs.Str.{bytes_eq}
-use Rattle.replcmd.specs.declared.token.Token.{Token}
-use Rattle.replcmd.specs.declared.token.Token.TheVariants.{Word, Quoted}
-use Rattle.replcmd.specs.declared.words.TheConstants.{MOST_SLOT_NAME_BYTES}
+use Rattle.replcmd.specs.declared.text.token.Token.{Token}
+use Rattle.replcmd.specs.declared.text.token.Token.TheVariants.{Word, Quoted}
+use Rattle.replcmd.specs.declared.text.words.TheConstants.{MOST_SLOT_NAME_BYTES}
 
 abbrev pub lower : List ℕ → List ℕ
 lower word = map to_ascii_lowercase word

@@ -5,17 +5,17 @@ ghost use Rattle.replcmd.specs.Grammar.{SpellsCommand};
 ghost use Rattle.replcmd.specs.Commands.{Tells, command_at};
 ghost use Rattle.replcmd.specs.Reading.{Answers};
 
-use crate::create::create_of;
-use crate::drop_slot::drop_of;
+use crate::clauses::setting::StreamOptions;
+use crate::clauses::snapshot::Snapshot;
+use crate::clauses::strictness::Strictness;
+use crate::commands::create::create_of;
+use crate::commands::drop_slot::drop_of;
+use crate::commands::identify::identify_of;
+use crate::commands::start::start_of;
 use crate::fault::CmdFault;
-use crate::identify::identify_of;
-use crate::lexer::tokens_of;
-use crate::setting::StreamOptions;
-use crate::snapshot::Snapshot;
-use crate::start::start_of;
-use crate::strictness::Strictness;
-use crate::tokens::Tokens;
-use crate::verb::Verb;
+use crate::text::lexer::tokens_of;
+use crate::text::tokens::Tokens;
+use crate::text::verb::Verb;
 use pqformat::Text;
 use std::alloc::Global;
 

@@ -5,8 +5,8 @@ use Rattle.std.proofs.lemmas.List.{length-append}
 use Rattle.std.proofs.lemmas.List.Concat.{flat_map-cons}
 use Rattle.pqformat.specs.Fields.{int16}
 use Rattle.pqformat.proofs.Numbers.{length-int16}
-use Rattle.pgoutput.specs.declared.tuple.Cell.{Cell}
-use Rattle.pgoutput.specs.declared.tuple.Cell.TheVariants as cells
+use Rattle.pgoutput.specs.declared.parts.tuple.Cell.{Cell}
+use Rattle.pgoutput.specs.declared.parts.tuple.Cell.TheVariants as cells
 use Rattle.pgoutput.specs.Tuple.{cell, tuple}
 use Rattle.tables.specs.declared.column.Column.{Column}
 use Rattle.tables.specs.declared.kinds.Value.{Value}

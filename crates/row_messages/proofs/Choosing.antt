@@ -11,15 +11,15 @@ use Rattle.pqformat.proofs.Numbers.{length-int16}
 use Rattle.tables.specs.declared.column.Column.{Column}
 use Rattle.tables.specs.declared.table.Table.{Table}
 use Rattle.tables.specs.declared.kinds.Value.{Value}
-use Rattle.tables.specs.declared.row.TheConstants.{MAX_ROW_LENGTH}
+use Rattle.tables.specs.declared.rows.row.TheConstants.{MAX_ROW_LENGTH}
 use Rattle.tables.specs.Kinds.{spell_value}
 use Rattle.tables.specs.Spelling.{row_length}
 use Rattle.tables.specs.Tables.{fits_column, fits_table}
 use Rattle.pgoutput.specs.Relation.{FitsName}
 use Rattle.publication_config.specs.Published.{is_listed}
 use Rattle.row_messages.specs.Relations.{listed_items, table_as_published, FitsTable}
-use Rattle.pgoutput.specs.declared.tuple.Cell.{Cell}
-use Rattle.pgoutput.specs.declared.tuple.Cell.TheVariants as cells
+use Rattle.pgoutput.specs.declared.parts.tuple.Cell.{Cell}
+use Rattle.pgoutput.specs.declared.parts.tuple.Cell.TheVariants as cells
 use Rattle.row_messages.specs.Kinds.{cell_of}
 use Rattle.row_messages.specs.Tuples.{cell_behind}
 use Rattle.row_messages.specs.Messages.{stands_in}

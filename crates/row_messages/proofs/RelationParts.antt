@@ -9,7 +9,7 @@ use Rattle.pqformat.specs.Fields.{int16, int32, string}
 use Rattle.pgoutput.specs.Relation.{FitsName, column, identity_letter, key_flag}
 use Rattle.pgoutput.specs.Logical.{spell_logical}
 use Rattle.pgoutput.specs.declared.logical.Logical.TheVariants as logical
-use Rattle.pgoutput.specs.declared.relation.TheConstants.{RELATION}
+use Rattle.pgoutput.specs.declared.messages.relation.TheConstants.{RELATION}
 use Rattle.tables.specs.declared.column.Column.{Column}
 use Rattle.tables.specs.declared.identity.Identity.{Identity}
 use Rattle.tables.specs.declared.table.Table.{Table}

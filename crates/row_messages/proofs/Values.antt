@@ -12,7 +12,7 @@ use Rattle.std.proofs.lemmas.Str.{IsUtf8-from_ascii, is_utf8-from_IsUtf8}
 use Rattle.pqformat.specs.Fields.{int32}
 use Rattle.pqformat.proofs.Numbers.{length-int16, length-int32, length-int64}
 use Rattle.pgoutput.specs.Tuple.{FitsCell, FitsSentCell, cell}
-use Rattle.tables.specs.declared.row.TheConstants.{MAX_ROW_LENGTH}
+use Rattle.tables.specs.declared.rows.row.TheConstants.{MAX_ROW_LENGTH}
 use Rattle.tables.specs.declared.kinds.Kind.{Kind}
 use Rattle.tables.specs.declared.kinds.Kind.TheVariants as kinds
 use Rattle.tables.specs.declared.kinds.Value.{Value}

@@ -12,17 +12,17 @@ use Rattle.row_messages.specs.Kinds.{same_value}
 use Rattle.row_messages.specs.Tuples.{changes_key, old_by}
 use Rattle.std.specs.Option.{option_map}
 use Rattle.tables.specs.declared.table.Table.{Table}
-use Rattle.pgoutput.specs.declared.delete.TheConstants.{DELETE}
+use Rattle.pgoutput.specs.declared.messages.delete.TheConstants.{DELETE}
 use Rattle.pgoutput.specs.declared.logical.Logical.{Logical}
 use Rattle.pgoutput.specs.declared.logical.Logical.TheVariants as logical
-use Rattle.pgoutput.specs.declared.old_tuple.OldTuple.{OldTuple}
+use Rattle.pgoutput.specs.declared.parts.old_tuple.OldTuple.{OldTuple}
 use Rattle.pgoutput.specs.Logical.{spell_logical}
 use Rattle.pgoutput.specs.OldTuple.{old_tuple}
 use Rattle.row_messages.specs.Messages.{delete_message}
 use Rattle.pqformat.specs.Fields.{int16, int32}
 use Rattle.pqformat.proofs.Numbers.{length-int16, length-int32}
-use Rattle.pgoutput.specs.declared.tuple.Cell.{Cell}
-use Rattle.pgoutput.specs.declared.tuple.Cell.TheVariants as cells
+use Rattle.pgoutput.specs.declared.parts.tuple.Cell.{Cell}
+use Rattle.pgoutput.specs.declared.parts.tuple.Cell.TheVariants as cells
 use Rattle.pgoutput.specs.Tuple.{cell, tuple}
 use Rattle.publication_config.specs.Published.{is_listed}
 use Rattle.row_messages.specs.Relations.{listed_items}

@@ -2,7 +2,7 @@
 use Rattle.std.specs.Prelude.{◌&&◌, Bool, List, nat_le, Option, option_map}
 use Rattle.pgoutput.specs.declared.logical.Logical.{Logical}
 use Rattle.pgoutput.specs.declared.logical.Logical.TheVariants as logical
-use Rattle.tables.specs.declared.row.TheConstants.{MAX_ROW_LENGTH}
+use Rattle.tables.specs.declared.rows.row.TheConstants.{MAX_ROW_LENGTH}
 use Rattle.tables.specs.declared.kinds.Value.{Value}
 use Rattle.tables.specs.declared.table.Table.{Table}
 use Rattle.tables.specs.Spelling.{row_length}

@@ -1,10 +1,10 @@
 -- What a column list leaves of a table, and the Relation of that (PostgreSQL 15, 31.4 and 55.9).
 use Rattle.std.specs.Prelude.{◌<◌, ◌≤◌, ◌^◌, Bool, List, [], ◌∷◌, map, length, if◌then◌else◌}
 use Rattle.std.specs.List.{AllByRecursion}
-use Rattle.pgoutput.specs.declared.relation.Relation.{Relation}
-use Rattle.pgoutput.specs.declared.relation.Column.{Column as ToldColumn}
-use Rattle.pgoutput.specs.declared.relation.Identity.{Identity as ToldIdentity}
-use Rattle.pgoutput.specs.declared.relation.Identity.TheVariants as told
+use Rattle.pgoutput.specs.declared.messages.relation.Relation.{Relation}
+use Rattle.pgoutput.specs.declared.messages.relation.Column.{Column as ToldColumn}
+use Rattle.pgoutput.specs.declared.messages.relation.Identity.{Identity as ToldIdentity}
+use Rattle.pgoutput.specs.declared.messages.relation.Identity.TheVariants as told
 use Rattle.pgoutput.specs.Relation.{FitsName}
 use Rattle.tables.specs.declared.identity.Identity.{Identity}
 use Rattle.tables.specs.declared.identity.Identity.TheVariants as identities

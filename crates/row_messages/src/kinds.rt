@@ -3,7 +3,7 @@
 ghost use Rattle.std.specs.Prelude.{◌≡◌, ◌+◌, ◌<◌, ◌≤◌, ◌^◌, length};
 ghost use Rattle.std.specs.Int.{cast_unsigned, w32};
 ghost use Rattle.pgoutput.specs.Tuple.{cell};
-ghost use Rattle.pgoutput.specs.declared.tuple.Cell.TheVariants as cells;
+ghost use Rattle.pgoutput.specs.declared.parts.tuple.Cell.TheVariants as cells;
 ghost use Rattle.pqformat.specs.Writing.{FitsRoom, Writes};
 ghost use Rattle.row_messages.specs.declared.kinds.TheConstants.{UUID_TEXT_LENGTH};
 ghost use Rattle.row_messages.specs.Kinds.{cell_of, is_long, is_the_uuid, same_value, type_modifier, type_oid, uuid_text};

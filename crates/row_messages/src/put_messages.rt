@@ -4,7 +4,7 @@
 ghost use Rattle.std.specs.Prelude.{◌≡◌, ◌<◌, ◌^◌, ◌∷◌, ◌++◌, [], Some, length};
 ghost use Rattle.pgoutput.specs.Logical.{spell_logical};
 ghost use Rattle.pgoutput.specs.declared.logical.Logical.{Logical};
-ghost use Rattle.pgoutput.specs.declared.delete.TheConstants.{DELETE};
+ghost use Rattle.pgoutput.specs.declared.messages.delete.TheConstants.{DELETE};
 ghost use Rattle.pqformat.specs.Fields.{int32};
 ghost use Rattle.pgoutput.specs.Update.{old_if_any};
 ghost use Rattle.row_messages.specs.Relations.{listed_items, table_as_published};

@@ -3,7 +3,7 @@
 ghost use Rattle.std.specs.Prelude.{◌≡◌, ◌+◌, ◌<◌, ◌≤◌, ◌^◌, ◌&&◌, not, get_or, length, if◌then◌else◌};
 ghost use Rattle.std.specs.List.{list_any, zip};
 ghost use Rattle.pgoutput.specs.Tuple.{cell, tuple};
-ghost use Rattle.pgoutput.specs.declared.tuple.Cell.TheVariants as cells;
+ghost use Rattle.pgoutput.specs.declared.parts.tuple.Cell.TheVariants as cells;
 ghost use Rattle.row_messages.specs.Relations.{listed_items};
 ghost use Rattle.pqformat.specs.Writing.{FitsRoom, Writes};
 ghost use Rattle.row_messages.specs.Kinds.{cell_of, same_value};

@@ -6,9 +6,9 @@ use Rattle.std.specs.List.{list_any}
 use Rattle.tables.specs.declared.table.Table.{Table}
 use Rattle.conditions.specs.declared.fault.FilterFault.{FilterFault}
 use Rattle.conditions.specs.declared.fault.FilterFault.TheVariants.{Syntax, UnknownColumn, TypeMismatch, NumberRange, TooDeep, Memory}
-use Rattle.conditions.specs.declared.sort.Sort.{Sort}
-use Rattle.conditions.specs.declared.sort.Sort.TheVariants.{Any, Truths, Numbers, Texts, UuidTexts, Uuids, Incomparable}
-use Rattle.conditions.specs.declared.token.Token.{Token}
+use Rattle.conditions.specs.declared.values.sort.Sort.{Sort}
+use Rattle.conditions.specs.declared.values.sort.Sort.TheVariants.{Any, Truths, Numbers, Texts, UuidTexts, Uuids, Incomparable}
+use Rattle.conditions.specs.declared.words.token.Token.{Token}
 use Rattle.rowfilter.specs.Answers.{Answers, condition_of, if_sorted, judged_condition, judged_condition_if, read_filter, read_tokens, tokens_in, tokens_within, with_more, without_levels}
 use Rattle.conditions.specs.Conditions.{Condition}
 use Rattle.conditions.specs.Grammar.{Phrase, IsInRange, levels, HasLargeNumber, HasManyLevels, IsRefused, MOST_BYTES, MOST_LEVELS, SpellsCondition, SpellsFilter, SpellsPhrase}

@@ -5,8 +5,8 @@ use denote.Param.SendFields.{declared_send, declared_sync}
 use Rattle.std.proofs.Crossing as heap
 use Rattle.pqformat.proofs.items.Items.TheSendSync as items
 use Rattle.conditions.proofs.expression.Expression.TheLaws.TheKnot as tree
-use Rattle.conditions.specs.contracts.step.Asked as asked
-use Rattle.conditions.specs.contracts.step.Step as step
+use Rattle.conditions.specs.contracts.flat.step.Asked as asked
+use Rattle.conditions.specs.contracts.flat.step.Step as step
 use Rattle.rowfilter.specs.contracts.filter.Filter as filter
 
 asked_send : IsSend asked.the_row

@@ -9,16 +9,16 @@ use Rattle.conditions.specs.declared.fault.FilterFault.{FilterFault}
 use Rattle.conditions.specs.declared.fault.FilterFault.TheVariants.{Syntax, UnknownColumn, TypeMismatch, NumberRange, TooDeep, Memory}
 use Rattle.conditions.specs.declared.expression.Expression.{Expression}
 use Rattle.conditions.specs.Shapes.{shape}
-use Rattle.conditions.specs.declared.token.Token.{Token}
+use Rattle.conditions.specs.declared.words.token.Token.{Token}
 use Rattle.conditions.specs.Conditions.{Condition, Column, Literal, Compare, Is, Not, And, Or}
 use Rattle.conditions.specs.Grammar.{Phrase, sayings_of, IsInRange, levels, meaning_of, SpellsPhrase, SpellsCondition, SpellsFilter, IsRefused, MOST_BYTES, MOST_LEVELS}
 use Rattle.conditions.specs.Kinds.{are_known, sort_of_kind, sort_of, are_compared, is_asked, is_truth, of_one, of_two, IsCondition}
-use Rattle.conditions.specs.declared.sort.Sort.{Sort}
-use Rattle.conditions.specs.declared.sort.Sort.TheVariants.{Truths}
+use Rattle.conditions.specs.declared.values.sort.Sort.{Sort}
+use Rattle.conditions.specs.declared.values.sort.Sort.TheVariants.{Truths}
 use Rattle.conditions.specs.Parts.{Grown, grown}
 use Rattle.rowfilter.specs.Readings.{GivesFilter, IsJudged, IsUnread, expression_of, tree_expression}
-use Rattle.conditions.specs.declared.part.Part.{Part}
-use Rattle.conditions.specs.declared.part.Tree.{Tree}
+use Rattle.conditions.specs.declared.trees.part.Part.{Part}
+use Rattle.conditions.specs.declared.trees.part.Tree.{Tree}
 use Rattle.conditions.specs.Views.{GivesPart, seen_tree}
 use Rattle.conditions.specs.Tokens.{Spells}
 use Rattle.conditions.specs.Words.{said_by_all}

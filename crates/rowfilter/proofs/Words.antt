@@ -5,9 +5,9 @@ use Rattle.std.specs.Prelude.{option_and_then}
 use Rattle.tables.specs.declared.column.Column.{Column as TableColumn}
 use Rattle.conditions.specs.declared.fault.FilterFault.{FilterFault}
 use Rattle.conditions.specs.declared.fault.FilterFault.TheVariants.{Syntax, UnknownColumn, TypeMismatch, NumberRange, TooDeep, Memory}
-use Rattle.conditions.specs.declared.part.Part.{Part}
-use Rattle.conditions.specs.declared.pending.Pending.{Pending as Item}
-use Rattle.conditions.specs.declared.token.Token.{Token}
+use Rattle.conditions.specs.declared.trees.part.Part.{Part}
+use Rattle.conditions.specs.declared.trees.pending.Pending.{Pending as Item}
+use Rattle.conditions.specs.declared.words.token.Token.{Token}
 use Rattle.conditions.specs.Parts.{Grown, parts, word_at}
 use Rattle.conditions.specs.Stacks.{State, outcome, run, step}
 use Rattle.conditions.specs.Views.{GivesPart, Moves}

@@ -5,8 +5,8 @@ use Rattle.tables.specs.declared.column.Column.{Column as TableColumn}
 use Rattle.tables.specs.declared.table.Table.{Table}
 use Rattle.conditions.specs.declared.fault.FilterFault.{FilterFault}
 use Rattle.conditions.specs.declared.fault.FilterFault.TheVariants.{Syntax, UnknownColumn, TypeMismatch, Memory}
-use Rattle.conditions.specs.declared.sort.Sort.{Sort}
-use Rattle.conditions.specs.declared.token.Token.{Token}
+use Rattle.conditions.specs.declared.values.sort.Sort.{Sort}
+use Rattle.conditions.specs.declared.words.token.Token.{Token}
 use Rattle.conditions.specs.Conditions.{Condition}
 use Rattle.conditions.specs.Grammar.{MOST_BYTES}
 use Rattle.conditions.specs.Kinds.{are_known, is_truth, of_one, sort_of}

@@ -3,8 +3,8 @@
 use Rattle.std.specs.Prelude.{◌≡◌, refl, ℕ, Bool, List, [], ◌∷◌}
 use Rattle.std.proofs.Common.{ap, ◌∙◌}
 use Rattle.std.specs.Coded.{Coded, code_by, coded_list}
-use Rattle.conditions.specs.declared.comparison.Comparison.{Comparison}
-use Rattle.conditions.specs.declared.question.Question.{Question}
+use Rattle.conditions.specs.declared.values.comparison.Comparison.{Comparison}
+use Rattle.conditions.specs.declared.values.question.Question.{Question}
 use Rattle.conditions.specs.Conditions.{Datum, Missing, Condition, Column, Literal, Compare, Is, Not, And, Or}
 
 -- an operand, or what joins the operands before it

@@ -4,9 +4,9 @@ use Rattle.tables.specs.declared.column.Column.{Column as TableColumn}
 use Rattle.conditions.specs.declared.fault.FilterFault.{FilterFault}
 use Rattle.conditions.specs.declared.fault.FilterFault.TheVariants.{Syntax, UnknownColumn, TypeMismatch, NumberRange, TooDeep, Memory}
 use Rattle.conditions.specs.declared.expression.Expression.{Expression}
-use Rattle.conditions.specs.declared.part.Part.{Part}
-use Rattle.conditions.specs.declared.part.Tree.{Tree}
-use Rattle.conditions.specs.declared.token.Token.{Token}
+use Rattle.conditions.specs.declared.trees.part.Part.{Part}
+use Rattle.conditions.specs.declared.trees.part.Tree.{Tree}
+use Rattle.conditions.specs.declared.words.token.Token.{Token}
 use Rattle.conditions.specs.Conditions.{Condition}
 use Rattle.conditions.specs.Grammar.{Phrase, SpellsPhrase, HasLargeNumber, HasManyLevels, MOST_BYTES}
 use Rattle.conditions.specs.Kinds.{are_known, IsCondition}

@@ -1,11 +1,11 @@
 -- What a session's line asks of the publisher: the one call that it names, with its refusal and what it leaves.
 use Rattle.std.specs.Prelude.{◌≡◌, ℕ, Bool, true, false, is_some, List, [], ◌∷◌, ◌++◌, Option, Some, None, option_map}
 use Rattle.tables.specs.declared.table.Table.{Table}
-use Rattle.tables.specs.declared.change.Change.TheVariants as changes
+use Rattle.tables.specs.declared.changes.change.Change.TheVariants as changes
 use Rattle.tables.specs.Tables.{table_named}
 use Rattle.store.specs.Rows.{Key}
-use Rattle.txlog.specs.declared.fault.SessionFault.{SessionFault}
-use Rattle.txlog.specs.declared.fault.SessionFault.TheVariants as faults
+use Rattle.txlog.specs.declared.answers.fault.SessionFault.{SessionFault}
+use Rattle.txlog.specs.declared.answers.fault.SessionFault.TheVariants as faults
 use Rattle.txlog.specs.Publishing.{PublisherState, IsRefusalOrMemory, after_begin, after_change, after_update, after_delete, message_with, after_note, after_savepoint, after_rollback, after_release, after_commit, after_abort, begin_refusal, insert_refusal, update_refusal, delete_refusal, truncate_refusal, message_refusal, note_refusal, receipt_of, savepoint_refusal, rollback_refusal, release_refusal, end_refusal}
 use Rattle.txlog.specs.Receipts.{Committed}
 use Rattle.schedule.specs.declared.event.Event.{Event}

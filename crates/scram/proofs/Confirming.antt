@@ -10,11 +10,11 @@ use Rattle.base64.specs.GeneralPurpose.{decoded_of}
 use Rattle.scram.specs.Parts.{parted}
 use Rattle.scram.specs.Challenges.{◌>>=◌, attribute_of, rounds_of, server_first_of}
 use Rattle.scram.specs.ClientExchanges.{KnowsPassword, answer_to, answered, confirmed}
-use Rattle.scram.specs.declared.client_exchange.ClientAnswer.{ClientAnswer}
-use Rattle.scram.specs.declared.client_exchange.ClientExchange.{ClientExchange}
-use Rattle.scram.specs.declared.server_first.ServerFirst.{ServerFirst}
-use Rattle.scram.specs.declared.server_fault.ServerFault.{ServerFault}
-use Rattle.scram.specs.declared.server_fault.ServerFault.TheVariants.{Malformed, Extension, Nonce, Salt, Rounds, Refused, Signature}
+use Rattle.scram.specs.declared.client_side.client_exchange.ClientAnswer.{ClientAnswer}
+use Rattle.scram.specs.declared.client_side.client_exchange.ClientExchange.{ClientExchange}
+use Rattle.scram.specs.declared.client_side.server_first.ServerFirst.{ServerFirst}
+use Rattle.scram.specs.declared.client_side.server_fault.ServerFault.{ServerFault}
+use Rattle.scram.specs.declared.client_side.server_fault.ServerFault.TheVariants.{Malformed, Extension, Nonce, Salt, Rounds, Refused, Signature}
 
 same : (a b : List ℕ) → bytes_eq a b ≡ true → a ≡ b
 same a b is = (bytes_decides a b).0 is

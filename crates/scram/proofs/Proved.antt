@@ -5,10 +5,10 @@ use Rattle.std.specs.Str.{bytes_eq}
 use Rattle.std.specs.Cmp.Lexicographic.{bytes_decides}
 use Rattle.sha2.specs.Sha256.{sha256}
 use Rattle.scram.specs.Attributes.{◌>>=◌}
-use Rattle.scram.specs.declared.client_final.ClientFinal.{ClientFinal}
+use Rattle.scram.specs.declared.client_side.client_final.ClientFinal.{ClientFinal}
 use Rattle.scram.specs.declared.fault.ExchangeFault.{ExchangeFault}
 use Rattle.scram.specs.declared.fault.ExchangeFault.TheVariants.{Nonce, Password}
-use Rattle.scram.specs.declared.server_exchange.Exchange.{Exchange}
+use Rattle.scram.specs.declared.server_side.server_exchange.Exchange.{Exchange}
 use Rattle.scram.specs.ClientFinal.{client_final_of}
 use Rattle.scram.specs.Exchanges.{HasProved, auth_message, is_proof, judged, key_proved, signed, verdict}
 

@@ -1,7 +1,7 @@
 -- What fails with a server is told, unless memory ran out.
 use Rattle.std.proofs.Common.{◌≡◌, Result, Err}
-use Rattle.scram.specs.declared.server_fault.ServerFault.{ServerFault}
-use Rattle.scram.specs.declared.server_fault.ServerFault.TheVariants.{Malformed, Extension, Nonce, Salt, Rounds, Refused, Signature, Memory}
+use Rattle.scram.specs.declared.client_side.server_fault.ServerFault.{ServerFault}
+use Rattle.scram.specs.declared.client_side.server_fault.ServerFault.TheVariants.{Malformed, Extension, Nonce, Salt, Rounds, Refused, Signature, Memory}
 use Rattle.scram.specs.Challenges.{Fails}
 
 pub fails : {Y : Type 0} (e : ServerFault) (read : Result Y ServerFault) → read ≡ Err e → Fails e read

@@ -8,10 +8,10 @@ use Rattle.std.specs.Str.Parse.{digits_value}
 use Rattle.base64.specs.Engines.{standard}
 use Rattle.base64.specs.GeneralPurpose.{decoded_of}
 use Rattle.scram.specs.Parts.{parted}
-use Rattle.scram.specs.declared.iteration_count.TheConstants.{MOST_ROUNDS}
-use Rattle.scram.specs.declared.server_first.ServerFirst.{ServerFirst}
-use Rattle.scram.specs.declared.server_fault.ServerFault.{ServerFault}
-use Rattle.scram.specs.declared.server_fault.ServerFault.TheVariants.{Malformed, Extension, Nonce, Salt, Rounds, Memory}
+use Rattle.scram.specs.declared.client_side.iteration_count.TheConstants.{MOST_ROUNDS}
+use Rattle.scram.specs.declared.client_side.server_first.ServerFirst.{ServerFirst}
+use Rattle.scram.specs.declared.client_side.server_fault.ServerFault.{ServerFault}
+use Rattle.scram.specs.declared.client_side.server_fault.ServerFault.TheVariants.{Malformed, Extension, Nonce, Salt, Rounds, Memory}
 
 infixl 10 ◌>>=◌
 abbrev pub ◌>>=◌ : {A B : Type 0} → Result A ServerFault → (A → Result B ServerFault) → Result B ServerFault

@@ -8,11 +8,11 @@ use Rattle.scram.specs.Exchanges.{signed}
 use Rattle.scram.specs.Hi.{hi, xor}
 use Rattle.scram.specs.Hmac.{hmac}
 use Rattle.scram.specs.Keys.{server_key, stored_key}
-use Rattle.scram.specs.declared.client_exchange.ClientAnswer.{ClientAnswer}
-use Rattle.scram.specs.declared.client_exchange.ClientExchange.{ClientExchange}
-use Rattle.scram.specs.declared.server_first.ServerFirst.{ServerFirst}
-use Rattle.scram.specs.declared.server_fault.ServerFault.{ServerFault}
-use Rattle.scram.specs.declared.server_fault.ServerFault.TheVariants.{Refused, Signature}
+use Rattle.scram.specs.declared.client_side.client_exchange.ClientAnswer.{ClientAnswer}
+use Rattle.scram.specs.declared.client_side.client_exchange.ClientExchange.{ClientExchange}
+use Rattle.scram.specs.declared.client_side.server_first.ServerFirst.{ServerFirst}
+use Rattle.scram.specs.declared.client_side.server_fault.ServerFault.{ServerFault}
+use Rattle.scram.specs.declared.client_side.server_fault.ServerFault.TheVariants.{Refused, Signature}
 
 -- "client-first-message-bare = username "," nonce", "username = "n=" saslname"
 abbrev pub first_bare : ClientExchange → List ℕ

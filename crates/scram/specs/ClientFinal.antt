@@ -9,8 +9,8 @@ use Rattle.scram.specs.Coding.{spelled}
 use Rattle.scram.specs.declared.fault.Malformed.TheVariants as form
 use Rattle.scram.specs.declared.fault.ExchangeFault.{ExchangeFault}
 use Rattle.scram.specs.declared.fault.ExchangeFault.TheVariants.{Malformed as Misformed, Binding as BindingFault}
-use Rattle.scram.specs.declared.client_first.Binding.{Binding}
-use Rattle.scram.specs.declared.client_final.ClientFinal.{ClientFinal}
+use Rattle.scram.specs.declared.client_side.client_first.Binding.{Binding}
+use Rattle.scram.specs.declared.client_side.client_final.ClientFinal.{ClientFinal}
 
 abbrev pub proof_of : List ℕ → Result (List ℕ) ExchangeFault
 proof_of text = ok_or (spelled 32 text) (Misformed form.Proof)

@@ -6,9 +6,9 @@ use Rattle.std.specs.Prelude.{length}
 use Rattle.scram.specs.declared.fault.Malformed.TheVariants as form
 use Rattle.scram.specs.declared.fault.ExchangeFault.{ExchangeFault}
 use Rattle.scram.specs.declared.fault.ExchangeFault.TheVariants.{AuthorizationIdentity, Extension, UnprintableNonce}
-use Rattle.scram.specs.declared.client_first.Binding.{Binding}
-use Rattle.scram.specs.declared.client_first.Binding.TheVariants.{Absent, Unused}
-use Rattle.scram.specs.declared.client_first.ClientFirst.{ClientFirst}
+use Rattle.scram.specs.declared.client_side.client_first.Binding.{Binding}
+use Rattle.scram.specs.declared.client_side.client_first.Binding.TheVariants.{Absent, Unused}
+use Rattle.scram.specs.declared.client_side.client_first.ClientFirst.{ClientFirst}
 
 -- "n,," and "y,," in base64
 abbrev pub repeated : Binding → List ℕ

@@ -8,9 +8,9 @@ use Rattle.scram.specs.ClientFinal.{client_final_of}
 use Rattle.scram.specs.Coding.{base64}
 use Rattle.scram.specs.Hi.{xor}
 use Rattle.scram.specs.Hmac.{hmac}
-use Rattle.scram.specs.declared.account.Account.{Account}
-use Rattle.scram.specs.declared.client_final.ClientFinal.{ClientFinal}
-use Rattle.scram.specs.declared.server_exchange.Exchange.{Exchange}
+use Rattle.scram.specs.declared.server_side.account.Account.{Account}
+use Rattle.scram.specs.declared.client_side.client_final.ClientFinal.{ClientFinal}
+use Rattle.scram.specs.declared.server_side.server_exchange.Exchange.{Exchange}
 use Rattle.scram.specs.declared.fault.ExchangeFault.{ExchangeFault}
 use Rattle.scram.specs.declared.fault.ExchangeFault.TheVariants.{Nonce, Password}
 

@@ -3,7 +3,7 @@ use Rattle.std.specs.Prelude.{◌≡◌, ℕ, List, codes}
 use Rattle.sha2.specs.Sha256.{sha256}
 use Rattle.scram.specs.Hmac.{hmac}
 use Rattle.scram.specs.Hi.{hi}
-use Rattle.scram.specs.declared.verifier.Verifier.{Verifier}
+use Rattle.scram.specs.declared.server_side.verifier.Verifier.{Verifier}
 
 -- "StoredKey := H(ClientKey)", "ClientKey := HMAC(SaltedPassword, "Client Key")"
 abbrev pub stored_key : List ℕ → List ℕ

@@ -10,12 +10,12 @@ use Rattle.scram.specs.Attributes.{◌>>=◌}
 use Rattle.scram.specs.Exchanges.{HasProved, begun, challenge, verdict}
 use Rattle.scram.specs.declared.fault.ExchangeFault.{ExchangeFault}
 use Rattle.scram.specs.declared.fault.ExchangeFault.TheVariants.{NoMechanism, Mechanism, Short, Trailing, Password}
-use Rattle.scram.specs.declared.server_exchange.Exchange.{Exchange}
-use Rattle.scram.specs.declared.login.Asked.{Asked}
-use Rattle.scram.specs.declared.login.Login.{Login}
-use Rattle.scram.specs.declared.login.Login.TheVariants.{Offered, Chosen, Challenged}
-use Rattle.scram.specs.declared.login.Reply.{Reply}
-use Rattle.scram.specs.declared.login.Reply.TheVariants.{Continue, Final}
+use Rattle.scram.specs.declared.server_side.server_exchange.Exchange.{Exchange}
+use Rattle.scram.specs.declared.server_side.login.Asked.{Asked}
+use Rattle.scram.specs.declared.server_side.login.Login.{Login}
+use Rattle.scram.specs.declared.server_side.login.Login.TheVariants.{Offered, Chosen, Challenged}
+use Rattle.scram.specs.declared.server_side.login.Reply.{Reply}
+use Rattle.scram.specs.declared.server_side.login.Reply.TheVariants.{Continue, Final}
 
 -- what stands after the length
 abbrev pub text_of : ℕ → List ℕ → Result (Option (List ℕ)) ExchangeFault

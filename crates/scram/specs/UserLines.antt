@@ -2,7 +2,7 @@
 use Rattle.std.specs.Prelude.{◌≡◌, ℕ, List, ◌++◌, codes}
 use Rattle.scram.specs.Keys.{IsVerifierOf}
 use Rattle.scram.specs.Verifiers.{verifier_text}
-use Rattle.scram.specs.declared.verifier.Verifier.{Verifier}
+use Rattle.scram.specs.declared.server_side.verifier.Verifier.{Verifier}
 
 pub record IsLineOf (name password salt line : List ℕ) : Type 0 where
   pub verifier : Verifier

@@ -5,7 +5,7 @@ use Rattle.std.specs.Option.{ok_or}
 use Rattle.std.specs.Str.{bytes_eq}
 use Rattle.scram.specs.Parts.{parted}
 use Rattle.scram.specs.Coding.{base64, spelled}
-use Rattle.scram.specs.declared.verifier.Verifier.{Verifier}
+use Rattle.scram.specs.declared.server_side.verifier.Verifier.{Verifier}
 use Rattle.scram.specs.declared.fault.VerifierFault.{VerifierFault}
 use Rattle.scram.specs.declared.fault.VerifierFault.TheVariants.{NotServed, Malformed, Memory}
 

@@ -8,10 +8,10 @@ use Rattle.pqformat.proofs.Numbers.{length-int32}
 use Rattle.pqformat.proofs.Codec.{IsBytes, bind_ok, ok_is, some_is, found_some}
 use Rattle.frames.specs.declared.fault.FrameFault.{FrameFault}
 use Rattle.frames.specs.declared.fault.FrameFault.TheVariants.{UnknownType}
-use Rattle.frames.specs.declared.frame.TheConstants.{FRAME_LIMIT}
+use Rattle.frames.specs.declared.parts.frame.TheConstants.{FRAME_LIMIT}
 use Rattle.frames.specs.Frame.{frame, raw_at}
 use Rattle.frames.proofs.Frames.{raw_takes}
-use Rattle.server.specs.declared.extended.Extended.{Extended}
+use Rattle.server.specs.declared.asked.extended.Extended.{Extended}
 use Rattle.server.specs.Extended.{SpellsExtended, extended_of, extended_limit, extended_raw, framed_extended}
 
 limited : (kind most : ℕ) (e : Extended) → extended_of kind ≡ Some e → extended_limit kind ≡ Some most → most ≡ FRAME_LIMIT

@@ -5,11 +5,11 @@ use Rattle.std.specs.List.{list_all}
 use Rattle.std.proofs.lemmas.Bool.Decides.{nat_tests}
 use Rattle.replcmd.specs.declared.command.Command.{Command}
 use Rattle.replcmd.specs.declared.command.Command.TheVariants.{Identify, Create, Start, Drop}
-use Rattle.replcmd.specs.declared.strictness.Strictness.{Strictness}
+use Rattle.replcmd.specs.declared.clauses.strictness.Strictness.{Strictness}
 use Rattle.replcmd.specs.Grammar.{SpellsCommand}
 use Rattle.replcmd.specs.Words.{is_slot_byte}
-use Rattle.server.specs.declared.question.Question.{Question}
-use Rattle.server.specs.declared.question.Question.TheVariants.{SearchPath, InitialCopy, Publications, Tables, Columns, Show, DropWhenFree}
+use Rattle.server.specs.declared.asked.question.Question.{Question}
+use Rattle.server.specs.declared.asked.question.Question.TheVariants.{SearchPath, InitialCopy, Publications, Tables, Columns, Table, ColumnLists, Attributes, RowFilters, Show, DropWhenFree}
 use Rattle.server.specs.Questions.{SpellsQuestion}
 use Rattle.server.specs.Conversation.{HasShortName, HasShortSlot}
 
@@ -29,5 +29,9 @@ short_parameter text InitialCopy spells = tt
 short_parameter text (Publications names) spells = tt
 short_parameter text (Tables names) spells = tt
 short_parameter text (Columns names) spells = tt
+short_parameter text (Table table) spells = tt
+short_parameter text (ColumnLists oid names) spells = tt
+short_parameter text (Attributes oid) spells = tt
+short_parameter text (RowFilters oid names) spells = tt
 short_parameter text (Show name) spells = short_name (length name) (list_all is_slot_byte name) spells.0
 short_parameter text (DropWhenFree slot) spells = tt

@@ -5,7 +5,7 @@ use Rattle.std.specs.Str.{bytes_eq}
 use Rattle.std.specs.List.{flat_map}
 use Rattle.std.proofs.lemmas.List.{length-append}
 use Rattle.std.proofs.lemmas.List.Concat.{flat_map-cons}
-use Rattle.frames.specs.declared.parameter.Parameter.{Parameter}
+use Rattle.frames.specs.declared.frontend.parameter.Parameter.{Parameter}
 use Rattle.pqformat.specs.Fields.{string}
 use Rattle.pqformat.specs.Steps.{closed_list}
 use Rattle.frames.specs.Parameter.{parameter}

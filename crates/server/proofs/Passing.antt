@@ -8,11 +8,11 @@ use Rattle.frames.specs.declared.fault.FrameFault.TheVariants.{Memory}
 use Rattle.frames.specs.declared.front.Front.{Front}
 use Rattle.frames.specs.Frame.{Gives}
 use Rattle.frames.specs.Front.{SpellsFront, IsShortFront, framed_front}
-use Rattle.server.specs.declared.extended.Extended.{Extended}
+use Rattle.server.specs.declared.asked.extended.Extended.{Extended}
 use Rattle.server.specs.declared.service.Service.{Service}
-use Rattle.server.specs.declared.stage.Stage.{Stage}
-use Rattle.server.specs.declared.stage.Stage.TheVariants.{Closed}
-use Rattle.server.specs.declared.stage.Turned.{Turned}
+use Rattle.server.specs.declared.stages.stage.Stage.{Stage}
+use Rattle.server.specs.declared.stages.stage.Stage.TheVariants.{Closed}
+use Rattle.server.specs.declared.stages.stage.Turned.{Turned}
 use Rattle.server.specs.Calls.{Call}
 use Rattle.server.specs.Extended.{SpellsExtended, framed_extended, is_extended}
 use Rattle.server.specs.Said.{error_of_refusal}

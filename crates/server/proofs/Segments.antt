@@ -11,12 +11,12 @@ use Rattle.server.specs.declared.conversation.Event.{Event}
 use Rattle.server.specs.declared.conversation.Event.TheVariants.{Came, AllSent}
 use Rattle.server.specs.declared.fault.ConnFault.{ConnFault}
 use Rattle.server.specs.declared.fault.ConnFault.TheVariants as faults
-use Rattle.server.specs.declared.stage.Stage.{Stage}
-use Rattle.server.specs.declared.stage.Stage.TheVariants.{Fresh, Idle, Skipping, Streaming, Stopping, Closed}
+use Rattle.server.specs.declared.stages.stage.Stage.{Stage}
+use Rattle.server.specs.declared.stages.stage.Stage.TheVariants.{Fresh, Idle, InBlock, Copying, Skipping, Streaming, Stopping, Closed}
 use Rattle.server.specs.Calls.{Call, AreAsked}
 use Rattle.server.specs.Conversation.{Gave}
 use Rattle.server.specs.Turns.{Turn, IsTurn, AreTurns, Waits, HaveEnded, IsConversation, end_turn}
-use Rattle.server.specs.Segment.{Went, HasText, IsAny, Ended, Happened, IfStopping, UnlessMemory, bytes_heard, phase_of}
+use Rattle.server.specs.Segment.{Went, HasCause, IsAny, Ended, Happened, IfStopping, UnlessMemory, bytes_heard, phase_of}
 
 kind-append : (Kind : Turn → Type 0) (ts us : List Turn) → AllByRecursion Kind ts → AllByRecursion Kind us → AllByRecursion Kind (ts ++ us)
 kind-append Kind [] us first then = then
@@ -92,14 +92,14 @@ passes service stage text is = rw is (refl, refl, refl)
 
 -- what comes to a closed connection
 passed-over : {D : Type 0} (told : D → Call → D → Type 0) (x : List ℕ) (a : Connection) (d : D) (out : List ℕ) (b : Connection) (all : List ℕ) → all ≡ a.pending.items ++ x
-    → b.service ≡ a.service → b.stage ≡ a.stage → b.pending.items ≡ [] → a.stage ≡ Closed → Went told HasText x a d out b d out
-passed-over told x a d out b [] all service stage pending is = went-none told HasText x a d out b d out service stage (pending ∙ all) refl refl
+    → b.service ≡ a.service → b.stage ≡ a.stage → b.pending.items ≡ [] → a.stage ≡ Closed → Went told HasCause x a d out b d out
+passed-over told x a d out b [] all service stage pending is = went-none told HasCause x a d out b d out service stage (pending ∙ all) refl refl
 passed-over told x a d out b (n ∷ ns) all service stage pending is =
     let text : List ℕ = n ∷ ns in
-    went-one told HasText x a d out b d out (record { text = text; asked = []; said = [] }) (omega arith) service (rw stage (passes a.service a.stage text is)) (sym all ∙ sym (append-nil text) ∙ ap (λ (l : List ℕ). text ++ l) (sym pending)) refl (sym (append-nil out))
+    went-one told HasCause x a d out b d out (record { text = text; asked = []; said = [] }) (omega arith) service (rw stage (passes a.service a.stage text is)) (sym all ∙ sym (append-nil text) ∙ ap (λ (l : List ℕ). text ++ l) (sym pending)) refl (sym (append-nil out))
 
 pub went-closed : {D : Type 0} (told : D → Call → D → Type 0) (x : List ℕ) (a : Connection) (d : D) (out : List ℕ) (b : Connection)
-    → b.service ≡ a.service → b.stage ≡ a.stage → b.pending.items ≡ [] → a.stage ≡ Closed → Went told HasText x a d out b d out
+    → b.service ≡ a.service → b.stage ≡ a.stage → b.pending.items ≡ [] → a.stage ≡ Closed → Went told HasCause x a d out b d out
 went-closed told x a d out b service stage pending is = passed-over told x a d out b (a.pending.items ++ x) refl service stage pending is
 
 -- a stream's end
@@ -110,7 +110,7 @@ are-any : (turns : List Turn) → AllByRecursion IsAny turns
 are-any [] = tt
 are-any (t ∷ turns) = (tt, are-any turns)
 
-went-any : {D : Type 0} (told : D → Call → D → Type 0) (x : List ℕ) (a : Connection) (d : D) (out : List ℕ) (b : Connection) (e : D) (end : List ℕ) → Went told HasText x a d out b e end → Went told IsAny x a d out b e end
+went-any : {D : Type 0} (told : D → Call → D → Type 0) (x : List ℕ) (a : Connection) (d : D) (out : List ℕ) (b : Connection) (e : D) (end : List ℕ) → Went told HasCause x a d out b e end → Went told IsAny x a d out b e end
 went-any told x a d out b e end went = record { turns = went.turns; kind = are-any went.turns; same = went.same; follow = went.follow; spell = went.spell; ask = went.ask; say = went.say }
 
 -- ---- from a new connection on
@@ -134,7 +134,7 @@ began told service c backend out numbered fresh empty = record {
 }
 
 began-took : {D : Type 0} (told : D → Call → D → Type 0) (service : Service) (x y : List ℕ) (d : D) (out : List ℕ) (b : Connection) (e : D) (mid : List ℕ) (c : Connection) (f : D) (end : List ℕ)
-    → Began told service x d out b e mid → Went told HasText y b e mid c f end → Waits c.stage c.pending.items → Began told service (x ++ y) d out c f end
+    → Began told service x d out b e mid → Went told HasCause y b e mid c f end → Waits c.stage c.pending.items → Began told service (x ++ y) d out c f end
 began-took told service x y d out b e mid c f end first then waits = record {
   old = first.old;
   numbered = first.numbered;
@@ -160,6 +160,8 @@ either : (stage : Stage) (A B : Type 0) → IfStopping stage A B → A ⊎ B
 either (Stopping database) A B is = inl is
 either Fresh A B is = inr is
 either (Idle database) A B is = inr is
+either (InBlock block) A B is = inr is
+either (Copying copying) A B is = inr is
 either (Skipping database) A B is = inr is
 either (Streaming database) A B is = inr is
 either Closed A B is = inr is
@@ -181,6 +183,8 @@ pub if_stopping : (stage : Stage) (A B : Type 0) → phase_of stage ≡ phases.S
 if_stopping (Stopping database) A B is a = a
 if_stopping Fresh A B is a = absurd cc
 if_stopping (Idle database) A B is a = absurd cc
+if_stopping (InBlock block) A B is a = absurd cc
+if_stopping (Copying copying) A B is a = absurd cc
 if_stopping (Skipping database) A B is a = absurd cc
 if_stopping (Streaming database) A B is a = absurd cc
 if_stopping Closed A B is a = absurd cc
@@ -189,6 +193,8 @@ pub unless_stopping : (stage : Stage) (A B : Type 0) → phase_of stage ≢ phas
 unless_stopping (Stopping database) A B other b = absurd (other refl)
 unless_stopping Fresh A B other b = b
 unless_stopping (Idle database) A B other b = b
+unless_stopping (InBlock block) A B other b = b
+unless_stopping (Copying copying) A B other b = b
 unless_stopping (Skipping database) A B other b = b
 unless_stopping (Streaming database) A B other b = b
 unless_stopping Closed A B other b = b

@@ -13,7 +13,7 @@ use Rattle.pqformat.proofs.Quoting.{found}
 use Rattle.replcmd.proofs.Texts.{cut_at_ascii, with_ascii}
 use Rattle.server.specs.Questions.{SpellsDrop, SpellsSlot}
 use Rattle.server.specs.Reading.{quoted_front}
-use Rattle.server.specs.declared.quoted.TheConstants.{NAME_QUOTE}
+use Rattle.server.specs.declared.asked.quoted.TheConstants.{NAME_QUOTE}
 use Rattle.server.proofs.Quotes.{quoted_reads, quoted_spells}
 use Rattle.server.proofs.Lists.{same_first}
 

@@ -5,12 +5,12 @@ use Rattle.std.specs.declared.alloc.AllocError.{AllocError}
 use Rattle.std.proofs.lemmas.List.{length-append, length-take-le, take_all, append-nil, take-append-drop}
 use Rattle.frames.specs.declared.fault.FrameFault.{FrameFault}
 use Rattle.frames.specs.declared.fault.FrameFault.TheVariants.{BadLength, BadVersion, UnknownType, BadBody, NotUtf8, TooLong, Memory}
-use Rattle.frames.specs.declared.startup.Startup.{Startup}
+use Rattle.frames.specs.declared.frontend.startup.Startup.{Startup}
 use Rattle.frames.specs.declared.front.Front.{Front}
 use Rattle.frames.specs.declared.front.Front.TheVariants as fronts
 use Rattle.frames.specs.declared.copy_data.CopyData.{CopyData}
-use Rattle.frames.specs.declared.copy_fail.CopyFail.{CopyFail}
-use Rattle.frames.specs.declared.query.Query.{Query}
+use Rattle.frames.specs.declared.frontend.copy_fail.CopyFail.{CopyFail}
+use Rattle.frames.specs.declared.frontend.query.Query.{Query}
 use Rattle.pqformat.specs.Fields.{int32}
 use Rattle.pqformat.specs.Putting.{Extends}
 use Rattle.frames.specs.Frame.{Gives}
@@ -21,14 +21,14 @@ use Rattle.server.specs.declared.service.Dialect.{Dialect}
 use Rattle.server.specs.declared.service.Service.{Service}
 use Rattle.server.specs.declared.connection.Connection.{Connection}
 use Rattle.server.specs.declared.refusal.Refusal.TheVariants.{Violation}
-use Rattle.server.specs.declared.stage.Stage.{Stage}
-use Rattle.server.specs.declared.stage.Stage.TheVariants.{Fresh, Closed}
-use Rattle.server.specs.declared.stage.Turned.{Turned}
+use Rattle.server.specs.declared.stages.stage.Stage.{Stage}
+use Rattle.server.specs.declared.stages.stage.Stage.TheVariants.{Fresh, Closed}
+use Rattle.server.specs.declared.stages.stage.Turned.{Turned}
 use Rattle.server.specs.Calls.{Call}
 use Rattle.server.specs.Conversation.{Gave, Tried}
 use Rattle.server.specs.Said.{error_of_refusal}
 use Rattle.server.specs.Turns.{Turn, IsTurn, IsFrameTurn, Hears, Opens, Streams, refusal_of}
-use Rattle.server.specs.Segment.{Went, HasText, Asks, Said, IsTurned, TakesTurn}
+use Rattle.server.specs.Segment.{Went, HasCause, Asks, Said, IsTurned, TakesTurn}
 use Rattle.server.proofs.Steps.{nothing_tried, tried_as}
 use Rattle.server.proofs.Segments.{went-none, went-one}
 
@@ -174,11 +174,11 @@ startup_refused_turned service pending fault out out' (Err e) gives other is say
 pub turned_went : {D : Type 0} (told : D → Call → D → Type 0) (old : Connection) (backend : D) (out : List ℕ) (t : Turned) (new : Connection) (backend' : D) (out' : List ℕ)
     → new.service ≡ old.service → new.stage ≡ t.stage → new.pending.items ≡ drop t.count old.pending.items
     → IsTurned old.service old.stage old.pending.items t ((backend' ≡ backend) × (out' ≡ out)) (λ fact. Gave told fact backend out backend' out')
-    → Went told HasText [] old backend out new backend' out'
+    → Went told HasCause [] old backend out new backend' out'
 turned_went told old backend out t new backend' out' service stage pending (inl (none, same, waits, (backends, outs))) =
-    went-none told HasText [] old backend out new backend' out' service (stage ∙ same) (pending ∙ ap (λ (n : ℕ). drop n old.pending.items) none ∙ sym (append-nil old.pending.items)) backends outs
+    went-none told HasCause [] old backend out new backend' out' service (stage ∙ same) (pending ∙ ap (λ (n : ℕ). drop n old.pending.items) none ∙ sym (append-nil old.pending.items)) backends outs
 turned_went told old backend out t new backend' out' service stage pending (inr (some, le, gave)) =
-    went-one told HasText [] old backend out new backend' out' (record { text = take t.count old.pending.items; asked = gave.asked; said = gave.text }) (rw (length-take-le t.count old.pending.items le) some) service (rw stage gave.fact)
+    went-one told HasCause [] old backend out new backend' out' (record { text = take t.count old.pending.items; asked = gave.asked; said = gave.text }) (rw (length-take-le t.count old.pending.items le) (omega (arith, some))) service (rw stage gave.fact)
     (append-nil old.pending.items ∙ sym (take-append-drop t.count old.pending.items) ∙ ap (λ (l : List ℕ). take t.count old.pending.items ++ l) (sym pending))
     gave.asks gave.says
 

@@ -3,11 +3,11 @@ use Rattle.std.specs.Prelude.{ℕ, ◌<◌, ◌≤◌, ◌^◌, List, [], ◌∷
 use Rattle.std.specs.Fmt.{decimal}
 use Rattle.std.specs.List.{flat_map, AllByRecursion}
 use Rattle.std.specs.Str.{bytes_eq}
-use Rattle.frames.specs.declared.data_row.DataValue.TheVariants.{Bytes}
+use Rattle.frames.specs.declared.backend.data_row.DataValue.TheVariants.{Bytes}
 use Rattle.server.specs.declared.backend_fault.BackendFault.{BackendFault}
 use Rattle.server.specs.declared.refusal.Refusal.TheVariants.{Asked, UnknownParameter}
-use Rattle.server.specs.declared.table_name.TableName.{TableName}
-use Rattle.server.specs.declared.table_name.TableColumns.{TableColumns}
+use Rattle.server.specs.declared.asked.table_name.TableName.{TableName}
+use Rattle.server.specs.declared.asked.table_name.TableColumns.{TableColumns}
 use Rattle.server.specs.Arrays.{array_text}
 use Rattle.server.specs.Refusals.{parameter_text}
 use Rattle.server.specs.Said.{refused_with, sent_frame, ready, error_and_ready, completion, columns_frame, values_frame, column_of, text_type}

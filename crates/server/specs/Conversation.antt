@@ -1,12 +1,12 @@
 -- A conversation: what is said to each text that a client sends, and what is asked of the backend for it.
-use Rattle.std.specs.Prelude.{◌≡◌, ◌≢◌, ℕ, ◌≤◌, length, ◌⊎◌, Bool, true, false, List, [], ◌∷◌, ◌++◌, Result, Ok, Err, codes}
+use Rattle.std.specs.Prelude.{◌≡◌, ◌≢◌, ℕ, ◌≤◌, length, ◌⊎◌, Bool, true, false, List, [], ◌∷◌, ◌++◌, Option, Result, Ok, Err, codes}
 use Rattle.std.specs.Str.{bytes_eq}
 use Rattle.replcmd.specs.declared.command.Command.{Command}
 use Rattle.replcmd.specs.declared.command.Command.TheVariants.{Identify, Create, Start, Drop}
-use Rattle.replcmd.specs.declared.snapshot.Snapshot.{Snapshot}
-use Rattle.replcmd.specs.declared.snapshot.Snapshot.TheVariants.{Export, Nothing, Use}
-use Rattle.replcmd.specs.declared.strictness.Strictness.{Strictness}
-use Rattle.replcmd.specs.declared.strictness.Strictness.TheVariants.{Strict, Lenient}
+use Rattle.replcmd.specs.declared.clauses.snapshot.Snapshot.{Snapshot}
+use Rattle.replcmd.specs.declared.clauses.snapshot.Snapshot.TheVariants.{Export, Nothing, Use}
+use Rattle.replcmd.specs.declared.clauses.strictness.Strictness.{Strictness}
+use Rattle.replcmd.specs.declared.clauses.strictness.Strictness.TheVariants.{Strict, Lenient}
 use Rattle.replcmd.specs.declared.fault.CmdFault.{CmdFault}
 use Rattle.replcmd.specs.declared.fault.CmdFault.TheVariants as commands
 use Rattle.replcmd.specs.Grammar.{SpellsCommand}
@@ -18,15 +18,18 @@ use Rattle.server.specs.declared.refusal.Refusal.{Refusal}
 use Rattle.server.specs.declared.refusal.Refusal.TheVariants as refusals
 use Rattle.server.specs.declared.service.Dialect.{Dialect}
 use Rattle.server.specs.declared.service.Dialect.TheVariants.{Commands, Questions}
-use Rattle.server.specs.declared.table_name.TableName.{TableName}
-use Rattle.server.specs.declared.table_name.TableColumns.{TableColumns}
+use Rattle.server.specs.declared.asked.table_name.TableName.{TableName}
+use Rattle.server.specs.declared.asked.table_name.TableColumns.{TableColumns}
+use Rattle.server.specs.declared.found_table.FoundTable.{FoundTable}
+use Rattle.server.specs.declared.found_table.TableAttribute.{TableAttribute}
 use Rattle.server.specs.Answers.{path_set, parameter_shown, publications_told, tables_told, columns_told}
+use Rattle.server.specs.TableAnswers.{table_told, attributes_told, lists_told, filters_told}
 use Rattle.server.specs.Calls.{Call, End, System, CreateSlot, DropSlot, StartStream, AreAsked}
 use Rattle.server.specs.Calls as calls
 use Rattle.server.specs.Refusals.{TellsRefusal, parameter_text}
 use Rattle.server.specs.Said.{error_and_ready, refused_with, answer_to_identify, answer_to_create, answer_to_drop, answer_to_start}
-use Rattle.server.specs.declared.question.Question.{Question}
-use Rattle.server.specs.declared.question.Question.TheVariants.{SearchPath, InitialCopy, Publications, Tables, Columns, Show, DropWhenFree}
+use Rattle.server.specs.declared.asked.question.Question.{Question}
+use Rattle.server.specs.declared.asked.question.Question.TheVariants.{SearchPath, InitialCopy, Publications, Tables, Columns, Table, ColumnLists, Attributes, RowFilters, Show, DropWhenFree}
 use Rattle.server.specs.Questions.{SpellsQuestion}
 
 -- what was asked of the backend, and what was said, in one step
@@ -110,6 +113,13 @@ AnswersQuestion (Publications names) asked text =
     (answer : Result (List (List ℕ)) BackendFault) × (asked ≡ calls.Publications names answer ∷ []) × (text ≡ publications_told answer)
 AnswersQuestion (Tables names) asked text = (answer : Result (List TableName) BackendFault) × (asked ≡ calls.Tables names answer ∷ []) × (text ≡ tables_told answer)
 AnswersQuestion (Columns names) asked text = (answer : Result (List TableColumns) BackendFault) × (asked ≡ calls.Columns names answer ∷ []) × (text ≡ columns_told answer)
+AnswersQuestion (Table table) asked text =
+    (answer : Result (Option FoundTable) BackendFault) × (asked ≡ calls.Table table.schema table.name answer ∷ []) × (text ≡ table_told answer)
+AnswersQuestion (ColumnLists oid names) asked text =
+    (answer : Result (List (Option (List ℕ))) BackendFault) × (asked ≡ calls.ColumnLists oid names answer ∷ []) × (text ≡ lists_told answer)
+AnswersQuestion (Attributes oid) asked text = (answer : Result (List TableAttribute) BackendFault) × (asked ≡ calls.Attributes oid answer ∷ []) × (text ≡ attributes_told answer)
+AnswersQuestion (RowFilters oid names) asked text =
+    (answer : Result (List (Option (List ℕ))) BackendFault) × (asked ≡ calls.RowFilters oid names answer ∷ []) × (text ≡ filters_told answer)
 AnswersQuestion (Show name) asked text = (asked ≡ []) × (text ≡ parameter_shown name)
 AnswersQuestion (DropWhenFree slot) asked text = (answer : Result (Unit {0}) BackendFault) × (asked ≡ DropSlot slot answer ∷ []) × (text ≡ answer_to_drop slot answer)
 

@@ -4,11 +4,11 @@ use Rattle.std.specs.Option.{ok_or}
 use Rattle.pqformat.specs.Steps.{◌>>=◌}
 use Rattle.frames.specs.declared.fault.FrameFault.{FrameFault}
 use Rattle.frames.specs.declared.fault.FrameFault.TheVariants.{UnknownType}
-use Rattle.frames.specs.declared.frame.TheConstants.{FRAME_LIMIT}
+use Rattle.frames.specs.declared.parts.frame.TheConstants.{FRAME_LIMIT}
 use Rattle.frames.specs.Frame.{frame, raw_at}
-use Rattle.server.specs.declared.extended.Extended.{Extended}
-use Rattle.server.specs.declared.extended.Extended.TheVariants.{Step, Flush, Sync, Call}
-use Rattle.server.specs.declared.extended.TheConstants.{PARSE, BIND, DESCRIBE, EXECUTE, CLOSE, FLUSH, SYNC, FUNCTION_CALL}
+use Rattle.server.specs.declared.asked.extended.Extended.{Extended}
+use Rattle.server.specs.declared.asked.extended.Extended.TheVariants.{Step, Flush, Sync, Call}
+use Rattle.server.specs.declared.asked.extended.TheConstants.{PARSE, BIND, DESCRIBE, EXECUTE, CLOSE, FLUSH, SYNC, FUNCTION_CALL}
 
 -- what the frame of a type byte is; None: it is none of these
 abbrev pub extended_of : ℕ → Option Extended

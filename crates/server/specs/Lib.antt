@@ -1,6 +1,7 @@
 pub mod Calls
 pub mod Opening
 pub mod Conversation
+pub mod Blocks
 pub mod Turns
 pub mod Segment
 pub mod Questions
@@ -10,3 +11,7 @@ pub mod Said
 pub mod Arrays
 pub mod Answers
 pub mod Extended
+pub mod RowText
+pub mod TableAnswers
+pub mod Copies
+pub mod CopyReading

@@ -1,7 +1,7 @@
 -- What a session's startup asks for (PostgreSQL 15, 55.2.1 and 55.4): parameters by name, of which the last pair counts.
 use Rattle.std.specs.Prelude.{ℕ, Bool, false, List, [], ◌∷◌, Option, Some, None, codes, if◌then◌else◌}
 use Rattle.std.specs.Str.{bytes_eq}
-use Rattle.frames.specs.declared.parameter.Parameter.{Parameter}
+use Rattle.frames.specs.declared.frontend.parameter.Parameter.{Parameter}
 
 -- the value of the last parameter of this name, or what was found before
 abbrev pub latest : List ℕ → Option (List ℕ) → List Parameter → Option (List ℕ)

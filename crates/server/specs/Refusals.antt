@@ -1,7 +1,7 @@
 -- What an ErrorResponse says of each cause (PostgreSQL 15, appendix A): the code, and the text.
 use Rattle.std.specs.Prelude.{◌≡◌, ℕ, List, [], ◌∷◌, ◌++◌, length, nat_le, Option, Some, None, codes, if◌then◌else◌}
 use Rattle.replcmd.specs.Position.{position_text}
-use Rattle.server.specs.declared.naming.TheConstants.{MOST_NAME_BYTES}
+use Rattle.server.specs.declared.asked.naming.TheConstants.{MOST_NAME_BYTES}
 use Rattle.replcmd.specs.declared.fault.CmdFault.{CmdFault}
 use Rattle.replcmd.specs.declared.fault.CmdFault.TheVariants as commands
 use Rattle.replcmd.specs.declared.fault.OptionFault.{OptionFault}
@@ -12,7 +12,7 @@ use Rattle.server.specs.declared.backend_fault.BackendFault.{BackendFault}
 use Rattle.server.specs.declared.backend_fault.StartAhead.{StartAhead}
 use Rattle.server.specs.declared.backend_fault.BackendFault.TheVariants as backends
 use Rattle.server.specs.declared.refusal.Refusal.{Refusal}
-use Rattle.server.specs.declared.refusal.Refusal.TheVariants.{Violation, Version, NoReplication, InitialCopy, NoTransaction, UnknownParameter, ExtendedQuery, FunctionCall, Command, Question, Asked}
+use Rattle.server.specs.declared.refusal.Refusal.TheVariants.{Violation, Version, NoReplication, InitialCopy, NoTransaction, NotFirst, ExportInBlock, StartInBlock, BlockFailed, UnknownParameter, ExtendedQuery, FunctionCall, Command, Question, Asked}
 
 abbrev pub command_code : CmdFault → List ℕ
 command_code commands.Syntax = codes "42601"
@@ -60,6 +60,10 @@ backend_code (backends.StartAhead ahead) = codes "55000"
 backend_code backends.SlotLost = codes "55000"
 backend_code backends.NotOwner = codes "42501"
 backend_code backends.NotGranted = codes "42501"
+backend_code backends.NoCopies = codes "0A000"
+backend_code backends.UnknownTable = codes "42P01"
+backend_code backends.UnknownColumn = codes "42703"
+backend_code backends.UnknownFilter = codes "42601"
 backend_code backends.Memory = codes "53200"
 
 abbrev pub backend_text : BackendFault → List ℕ
@@ -74,6 +78,10 @@ backend_text (backends.StartAhead ahead) = codes "start is ahead of what the slo
 backend_text backends.SlotLost = codes "can no longer get changes from replication slot"
 backend_text backends.NotOwner = codes "must be owner of replication slot"
 backend_text backends.NotGranted = codes "permission denied for publication"
+backend_text backends.NoCopies = codes "initial copies are not served: use WITH (copy_data = false)"
+backend_text backends.UnknownTable = codes "relation does not exist"
+backend_text backends.UnknownColumn = codes "column does not exist"
+backend_text backends.UnknownFilter = codes "invalid row filter"
 backend_text backends.Memory = codes "out of memory"
 
 abbrev pub refusal_code : Refusal → List ℕ
@@ -82,6 +90,10 @@ refusal_code Version = codes "0A000"
 refusal_code NoReplication = codes "0A000"
 refusal_code InitialCopy = codes "0A000"
 refusal_code NoTransaction = codes "XX000"
+refusal_code NotFirst = codes "XX000"
+refusal_code ExportInBlock = codes "XX000"
+refusal_code StartInBlock = codes "25001"
+refusal_code BlockFailed = codes "25P02"
 refusal_code UnknownParameter = codes "42704"
 refusal_code ExtendedQuery = codes "08P01"
 refusal_code FunctionCall = codes "08P01"
@@ -95,6 +107,10 @@ refusal_text Version = codes "unsupported protocol version"
 refusal_text NoReplication = codes "only replication=database is served"
 refusal_text InitialCopy = codes "initial copies are not served: use WITH (copy_data = false)"
 refusal_text NoTransaction = codes "CREATE_REPLICATION_SLOT ... (SNAPSHOT 'use') must be called inside a transaction"
+refusal_text NotFirst = codes "CREATE_REPLICATION_SLOT ... (SNAPSHOT 'use') must be called before any query"
+refusal_text ExportInBlock = codes "a slot's snapshot must not be exported inside a transaction"
+refusal_text StartInBlock = codes "START_REPLICATION cannot run inside a transaction block"
+refusal_text BlockFailed = codes "current transaction is aborted, commands ignored until its end"
 refusal_text UnknownParameter = codes "unrecognized configuration parameter"
 refusal_text ExtendedQuery = codes "extended query protocol not supported: only simple queries are served"
 refusal_text FunctionCall = codes "function calls not supported: only simple queries are served"

@@ -2,15 +2,15 @@
 use Rattle.std.specs.Prelude.{ℕ, ◌^◌, ◌≤◌, List, [], ◌∷◌, ◌++◌, length, Option, Some, None, Result, Ok, Err, codes}
 use Rattle.frames.specs.declared.back.Back.{Back}
 use Rattle.frames.specs.declared.back.Back.TheVariants.{AuthenticationOk, ParameterStatus, BackendKeyData, ReadyForQuery, CommandComplete, RowDescription, DataRow, ErrorResponse, CopyBothResponse, CopyDone}
-use Rattle.frames.specs.declared.ready_for_query.Status.TheVariants as statuses
-use Rattle.frames.specs.declared.row_description.ColumnType.{ColumnType}
-use Rattle.frames.specs.declared.row_description.ColumnDescription.{ColumnDescription}
-use Rattle.frames.specs.declared.data_row.DataValue.{DataValue}
-use Rattle.frames.specs.declared.data_row.DataValue.TheVariants.{Null, Bytes}
+use Rattle.frames.specs.declared.backend.ready_for_query.Status.TheVariants as statuses
+use Rattle.frames.specs.declared.backend.row_description.ColumnType.{ColumnType}
+use Rattle.frames.specs.declared.backend.row_description.ColumnDescription.{ColumnDescription}
+use Rattle.frames.specs.declared.backend.data_row.DataValue.{DataValue}
+use Rattle.frames.specs.declared.backend.data_row.DataValue.TheVariants.{Null, Bytes}
 use Rattle.frames.specs.Frame.{frame}
 use Rattle.frames.specs.Back.{back_kind, back_body}
 use Rattle.replcmd.specs.Position.{position_text}
-use Rattle.server.specs.declared.say.TheConstants.{TEXT_OID, INT4_OID, INT4_SIZE, ANY_SIZE, NO_MODIFIER, NO_ATTRIBUTE}
+use Rattle.server.specs.declared.said.say.TheConstants.{TEXT_OID, INT4_OID, INT4_SIZE, ANY_SIZE, NO_MODIFIER, NO_ATTRIBUTE}
 use Rattle.server.specs.declared.backend_fault.BackendFault.{BackendFault}
 use Rattle.server.specs.declared.refusal.Refusal.{Refusal}
 use Rattle.server.specs.declared.service.Dialect.{Dialect}

@@ -1,18 +1,18 @@
 -- The part of a conversation that one call carries on, from the connection before it to the connection after it.
-use Rattle.std.specs.Prelude.{◌≡◌, ℕ, ◌+◌, ◌==◌, nat_le, ◌<◌, ◌≤◌, ◌⊎◌, Bool, ◌&&◌, false, List, [], ◌++◌, length, take, Option, Some, None, Result, Ok, Err}
+use Rattle.std.specs.Prelude.{◌≡◌, ℕ, ◌+◌, ◌-◌, ◌*◌, ◌^◌, ◌==◌, nat_le, ◌<◌, ◌≤◌, ◌⊎◌, Bool, ◌&&◌, false, true, List, [], ◌++◌, length, take, Option, Some, None, Result, Ok, Err}
 use Rattle.std.specs.Int.{w32}
 use Rattle.std.specs.List.{flat_map, AllByRecursion}
 use Rattle.pqformat.specs.Fields.{byte_at, number_at}
-use Rattle.frames.specs.declared.query.TheConstants.{QUERY}
+use Rattle.frames.specs.declared.frontend.query.TheConstants.{QUERY}
 use Rattle.server.specs.declared.service.Service.{Service}
 use Rattle.server.specs.declared.fault.ConnFault.{ConnFault}
 use Rattle.server.specs.declared.fault.ConnFault.TheVariants as faults
 use Rattle.server.specs.declared.connection.Phase.{Phase}
 use Rattle.server.specs.declared.connection.Phase.TheVariants as phases
 use Rattle.server.specs.declared.connection.Connection.{Connection}
-use Rattle.server.specs.declared.stage.Stage.{Stage}
-use Rattle.server.specs.declared.stage.Stage.TheVariants.{Fresh, Idle, Skipping, Streaming, Stopping, Closed}
-use Rattle.server.specs.declared.stage.Turned.{Turned}
+use Rattle.server.specs.declared.stages.stage.Stage.{Stage}
+use Rattle.server.specs.declared.stages.stage.Stage.TheVariants.{Fresh, Idle, InBlock, Copying, Skipping, Streaming, Stopping, Closed}
+use Rattle.server.specs.declared.stages.stage.Turned.{Turned}
 use Rattle.pqformat.specs.Putting.{Extends}
 use Rattle.std.specs.declared.alloc.AllocError.{AllocError}
 use Rattle.server.specs.Calls.{Call, AreAsked}
@@ -22,9 +22,9 @@ use Rattle.server.specs.declared.conversation.Event.TheVariants.{Came, AllSent}
 use Rattle.server.specs.Turns.{Turn, IsTurn, AreTurns, Waits, end_turn}
 use Rattle.server.specs.Said.{end_of_stream}
 
--- a turn for a text, so not the end of a stream
-abbrev pub HasText : Turn → Type 0
-HasText t = 0 < length t.text
+-- a turn for a text, or for rows of a copy, which are asked for: so not the end of a stream
+abbrev pub HasCause : Turn → Type 0
+HasCause t = 0 < length t.text + length t.asked
 
 abbrev pub IsAny : Turn → Type 0
 IsAny t = Unit {0}
@@ -50,7 +50,7 @@ pub record Broke {D : Type 0} (told : D → Call → D → Type 0) (input : List
   pub stage : Stage
   pub rest : List ℕ
   pub between : D
-  pub kind : AllByRecursion HasText turns
+  pub kind : AllByRecursion HasCause turns
   pub follow : AreTurns old.service old.stage turns stage
   pub spell : old.pending.items ++ input ≡ flat_map (λ t. t.text) turns ++ rest
   pub ask : AreAsked told backend (flat_map (λ t. t.asked) turns) between
@@ -74,13 +74,15 @@ abbrev pub IfStopping : Stage → Type 0 → Type 0 → Type 0
 IfStopping (Stopping database) Then Else = Then
 IfStopping Fresh Then Else = Else
 IfStopping (Idle database) Then Else = Else
+IfStopping (InBlock block) Then Else = Else
+IfStopping (Copying copying) Then Else = Else
 IfStopping (Skipping database) Then Else = Else
 IfStopping (Streaming database) Then Else = Else
 IfStopping Closed Then Else = Else
 
 -- What comes is taken. That all has been sent ends a stream that stops, and is passed over else.
 abbrev pub Happened : {D : Type 0} → (D → Call → D → Type 0) → Event → Connection → D → List ℕ → Connection → D → List ℕ → Type 0
-Happened told (Came bytes) old backend out new backend' out' = Went told HasText bytes.items old backend out new backend' out' × Waits new.stage new.pending.items
+Happened told (Came bytes) old backend out new backend' out' = Went told HasCause bytes.items old backend out new backend' out' × Waits new.stage new.pending.items
 Happened told AllSent old backend out new backend' out' = (backend' ≡ backend) × IfStopping old.stage (Ended old out new out') ((new ≡ old) × (out' ≡ out))
 
 -- until memory runs out; what comes to a closed connection is no exception
@@ -92,6 +94,8 @@ UnlessMemory (Err faults.Memory) Fact = Unit {0}
 abbrev pub phase_of : Stage → Phase
 phase_of Fresh = phases.Startup
 phase_of (Idle database) = phases.Idle
+phase_of (InBlock block) = phases.Idle
+phase_of (Copying copying) = phases.Idle
 phase_of (Skipping database) = phases.Idle
 phase_of (Streaming database) = phases.Streaming
 phase_of (Stopping database) = phases.Stopping
@@ -135,8 +139,37 @@ has_query (Some front) = (front.0 == QUERY) && is_there (number_at w32 front.1)
 -- what is answered next is a query
 abbrev pub has_command : Stage → List ℕ → Bool
 has_command (Idle database) pending = has_query (byte_at pending)
+has_command (InBlock block) pending = has_query (byte_at pending)
 has_command Fresh pending = false
+has_command (Copying copying) pending = false
 has_command (Skipping database) pending = false
 has_command (Streaming database) pending = false
 has_command (Stopping database) pending = false
 has_command Closed pending = false
+
+-- ---- how long a call can go on
+
+abbrev pub is_copying : Stage → Bool
+is_copying (Copying copying) = true
+is_copying Fresh = false
+is_copying (Idle database) = false
+is_copying (InBlock block) = false
+is_copying (Skipping database) = false
+is_copying (Streaming database) = false
+is_copying (Stopping database) = false
+is_copying Closed = false
+
+-- A copy ends before its rows can't be counted.
+abbrev pub rows_left : Stage → ℕ
+rows_left (Copying copying) = 1 + (2 ^ 64 - copying.count)
+rows_left Fresh = 0
+rows_left (Idle database) = 0
+rows_left (InBlock block) = 0
+rows_left (Skipping database) = 0
+rows_left (Streaming database) = 0
+rows_left (Stopping database) = 0
+rows_left Closed = 0
+
+-- Each turn takes bytes, or says rows.
+abbrev pub most_turns : Connection → ℕ
+most_turns connection = length connection.pending.items * (2 ^ 64 + 2) + rows_left connection.stage

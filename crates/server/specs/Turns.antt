@@ -4,8 +4,8 @@ use Rattle.std.specs.Prelude.{◌≡◌, ℕ, ◌⊎◌, List, [], ◌∷◌, �
 use Rattle.std.specs.List.{flat_map}
 use Rattle.frames.specs.declared.fault.FrameFault.{FrameFault}
 use Rattle.frames.specs.declared.fault.FrameFault.TheVariants as frames
-use Rattle.frames.specs.declared.startup.Startup.{Startup}
-use Rattle.frames.specs.declared.startup.Startup.TheVariants.{Session, Ssl, Gss, Cancel}
+use Rattle.frames.specs.declared.frontend.startup.Startup.{Startup}
+use Rattle.frames.specs.declared.frontend.startup.Startup.TheVariants.{Session, Ssl, Gss, Cancel}
 use Rattle.frames.specs.declared.front.Front.{Front}
 use Rattle.frames.specs.declared.front.Front.TheVariants.{Query, Terminate, CopyData, CopyDone, CopyFail}
 use Rattle.frames.specs.Startup.{SpellsStartup, framed_startup}
@@ -17,11 +17,15 @@ use Rattle.server.specs.declared.service.Dialect.{Dialect}
 use Rattle.server.specs.declared.service.Service.{Service}
 use Rattle.server.specs.declared.refusal.Refusal.{Refusal}
 use Rattle.server.specs.declared.refusal.Refusal.TheVariants.{Violation, Version, ExtendedQuery, FunctionCall}
-use Rattle.server.specs.declared.stage.Stage.{Stage}
-use Rattle.server.specs.declared.stage.Stage.TheVariants.{Fresh, Idle, Skipping, Streaming, Stopping, Closed}
-use Rattle.server.specs.declared.extended.Extended.{Extended}
-use Rattle.server.specs.declared.extended.Extended.TheVariants as extended
+use Rattle.server.specs.declared.stages.stage.Stage.{Stage}
+use Rattle.server.specs.declared.stages.stage.Stage.TheVariants.{Fresh, Idle, InBlock, Copying, Skipping, Streaming, Stopping, Closed}
+use Rattle.server.specs.declared.asked.extended.Extended.{Extended}
+use Rattle.server.specs.declared.asked.extended.Extended.TheVariants as extended
+use Rattle.server.specs.declared.sessions.block.Block.{Block}
+use Rattle.server.specs.declared.stages.copying.Copying.{Copying as TableCopy}
+use Rattle.server.specs.Blocks.{AnswersIn, begins_block, block_begun, ending_of, new_block}
 use Rattle.server.specs.Calls.{Call, Flushed}
+use Rattle.server.specs.Copies.{CopiesOn}
 use Rattle.server.specs.Conversation.{RepliesIn}
 use Rattle.server.specs.Extended.{SpellsExtended, framed_extended, is_extended}
 use Rattle.server.specs.Opening.{opened_database}
@@ -60,14 +64,27 @@ Opens service (Cancel process key) = Says [] Closed
 
 -- ---- in a session
 
--- A query is answered, and may begin a stream. Terminate is the client's own end, and the frames of a stream are out of
+-- A query begins a transaction block, or it is answered, and may begin a stream.
+abbrev pub HearsQuery : Bool → Dialect → List ℕ → List ℕ → List Call → List ℕ → Stage → Type 0
+HearsQuery true dialect database query asked said next = Says block_begun (InBlock (new_block database)) asked said next
+HearsQuery false dialect database query asked said next = (begins : Bool) × RepliesIn dialect database query begins asked said × (next ≡ (if begins then Streaming database else Idle database))
+
+-- Terminate is the client's own end, and the frames of a stream are out of
 -- their place.
 abbrev pub Hears : Dialect → List ℕ → Front → List Call → List ℕ → Stage → Type 0
-Hears dialect database (Query query) asked said next = (begins : Bool) × RepliesIn dialect database query.text begins asked said × (next ≡ (if begins then Streaming database else Idle database))
+Hears dialect database (Query query) asked said next = HearsQuery (begins_block dialect query.text) dialect database query.text asked said next
 Hears dialect database Terminate asked said next = Says [] Closed asked said next
 Hears dialect database (CopyData bytes) asked said next = Refuses Violation asked said next
 Hears dialect database CopyDone asked said next = Refuses Violation asked said next
 Hears dialect database (CopyFail fail) asked said next = Refuses Violation asked said next
+
+-- In a transaction block queries alone are heard, until the client leaves.
+abbrev pub HearsInBlock : Block → Front → List Call → List ℕ → Stage → Type 0
+HearsInBlock block (Query query) asked said next = AnswersIn (ending_of query.text) block query.text asked said next
+HearsInBlock block Terminate asked said next = Says [] Closed asked said next
+HearsInBlock block (CopyData bytes) asked said next = Refuses Violation asked said next
+HearsInBlock block CopyDone asked said next = Refuses Violation asked said next
+HearsInBlock block (CopyFail fail) asked said next = Refuses Violation asked said next
 
 -- A step of an extended query is refused, and all up to its Sync is passed over. A function call is refused as a query is. A Sync
 -- is answered by what says that the session goes on, and to a Flush there is nothing to say.
@@ -135,6 +152,10 @@ IsSessionTurn Extends Answers t next =
     ((is_extended t.text ≡ true) × IsExtendedTurn Extends t next)
     ⊎ ((is_extended t.text ≡ false) × IsFrameTurn Answers t next)
 
+-- While a table is copied rows are said for no text, whatever the client sends.
+abbrev pub IsCopyTurn : TableCopy → Turn → Stage → Type 0
+IsCopyTurn copying t next = (t.text ≡ []) × CopiesOn copying t.asked t.said next
+
 -- A turn from one stage to the next. Its text is one startup, or one frame, or it begins with what is neither: then the
 -- connection closes, and all that follows is passed over.
 abbrev pub IsTurn : Service → Stage → Turn → Stage → Type 0
@@ -142,6 +163,8 @@ IsTurn service Fresh t next =
     ((startup : Startup) × SpellsStartup t.text startup × Opens service startup t.asked t.said next)
     ⊎ ((fault : FrameFault) × (framed_startup t.text ≡ Err fault) × Refuses (refusal_of fault) t.asked t.said next)
 IsTurn service (Idle database) t next = IsSessionTurn (HearsExtended database) (Hears service.dialect database) t next
+IsTurn service (InBlock block) t next = IsFrameTurn (HearsInBlock block) t next
+IsTurn service (Copying copying) t next = IsCopyTurn copying t next
 IsTurn service (Skipping database) t next = IsSessionTurn (SkipsExtended database) (Skips database) t next
 IsTurn service (Streaming database) t next = IsFrameTurn (Streams database) t next
 IsTurn service (Stopping database) t next = (t ≡ end_turn service.dialect) × (next ≡ Idle database)
@@ -152,11 +175,13 @@ abbrev pub AreTurns : Service → Stage → List Turn → Stage → Type 0
 AreTurns service old [] new = new ≡ old
 AreTurns service old (t ∷ ts) new = (mid : Stage) × IsTurn service old t mid × AreTurns service mid ts new
 
--- No startup and no frame stands whole at the front. While a stream stops, anything is kept; once the connection is
+-- No startup and no frame stands whole at the front, and no row is left to be said. While a stream stops, anything is kept; once the connection is
 -- closed, nothing is left.
 abbrev pub Waits : Stage → List ℕ → Type 0
 Waits Fresh rest = framed_startup rest ≡ Ok None
 Waits (Idle database) rest = (framed_front rest ≡ Ok None) ⊎ (framed_extended rest ≡ Ok None)
+Waits (InBlock block) rest = framed_front rest ≡ Ok None
+Waits (Copying copying) rest = ⊥
 Waits (Skipping database) rest = (framed_front rest ≡ Ok None) ⊎ (framed_extended rest ≡ Ok None)
 Waits (Streaming database) rest = framed_front rest ≡ Ok None
 Waits (Stopping database) rest = Unit {0}

@@ -21,6 +21,14 @@ pub enum BackendFault {
     NotOwner,
     /// The user may not follow a publication.
     NotGranted,
+    /// Tables are not copied from here.
+    NoCopies,
+    /// No table of this name is known.
+    UnknownTable,
+    /// A table has no column of this name.
+    UnknownColumn,
+    /// The text is no row filter of the table.
+    UnknownFilter,
     Memory,
 }
 
@@ -45,6 +53,10 @@ impl fmt::Display for BackendFault {
             BackendFault::SlotLost => "L8: the slot held more of the log than it may",
             BackendFault::NotOwner => "A3: the slot is another user's",
             BackendFault::NotGranted => "A4: the user may not follow a publication",
+            BackendFault::NoCopies => "L13: tables are not copied",
+            BackendFault::UnknownTable => "L10: the table does not exist",
+            BackendFault::UnknownColumn => "L11: the column does not exist",
+            BackendFault::UnknownFilter => "L12: the text is no row filter of the table",
             BackendFault::Memory => "out of memory",
         })
     }

@@ -2,18 +2,19 @@
 
 ghost use Rattle.std.specs.Prelude.{◌≡◌, ◌≢◌, ◌↔◌, ◌<◌, ◌++◌, ℕ, length, OnOk, OnErr, IfOk, [], Err, false, true};
 ghost use Rattle.pqformat.specs.Fields.{byte_at};
-ghost use Rattle.server.specs.Segment.{Went, HasText, Broke, Asks, Ended, UnlessMemory, has_command, has_query, phase_of};
+ghost use Rattle.server.specs.Segment.{Went, HasCause, Broke, Asks, Ended, UnlessMemory, has_command, has_query, is_copying, most_turns, phase_of};
 ghost use Rattle.server.specs.Conversation.{Tried};
 ghost use Rattle.server.specs.Turns.{IsTurn, Waits, end_turn};
 ghost use Rattle.server.specs.declared.service.Dialect.TheVariants.{Commands};
-ghost use Rattle.server.specs.declared.stage.Stage.TheVariants.{Fresh, Closed};
+ghost use Rattle.server.specs.declared.stages.stage.Stage.TheVariants.{Fresh, Closed};
 
 use crate::backend::Backend;
-use crate::ending::say_ended;
 use crate::fault::ConnFault;
+use crate::said::ending::say_ended;
 use crate::service::{Dialect, Service};
-use crate::stage::{Stage, Turned};
-use crate::turn::turn;
+use crate::stages::copying::turn_copy;
+use crate::stages::stage::{Stage, Turned};
+use crate::stages::turn::turn;
 use bytes::BytesMut;
 use frames::{Cursor, QUERY};
 use std::alloc::{AllocError, Global};
@@ -77,7 +78,8 @@ impl Connection {
     {
         match &self.stage {
             Stage::Fresh => Phase::Startup,
-            Stage::Idle(_) | Stage::Skipping(_) => Phase::Idle,
+            Stage::Idle(_) | Stage::InBlock(_) | Stage::Copying(_) | Stage::Skipping(_) =>
+                Phase::Idle,
             Stage::Streaming(_) => Phase::Streaming,
             Stage::Stopping(_) => Phase::Stopping,
             Stage::Closed => Phase::Closed,
@@ -89,8 +91,9 @@ impl Connection {
         ensures { result ≡ has_command self.now.stage self.now.pending.items }
     {
         match &self.stage {
-            Stage::Idle(_) => has_query(self.pending.as_slice()),
+            Stage::Idle(_) | Stage::InBlock(_) => has_query(self.pending.as_slice()),
             Stage::Fresh
+            | Stage::Copying(_)
             | Stage::Skipping(_)
             | Stage::Streaming(_)
             | Stage::Stopping(_)
@@ -108,7 +111,7 @@ impl Connection {
     }
 
     /// Answers one startup or frame of what has come, the next. False: it isn't there whole, or waits for the end of the stream
-    /// that stops.
+    /// that stops. While a table is copied each call adds some of its rows, and answers nothing that has come.
     ///
     /// `Memory` (H1) closes the connection without a word: what stood in `out` stands there, and no more. `Closed` (H2): it is
     /// closed, and what has come is passed over.
@@ -118,10 +121,10 @@ impl Connection {
         out: &mut BytesMut,
     ) -> Result<bool, ConnFault>
         ensures went { UnlessMemory result
-            (Went D.told HasText [] self.old backend.old out.old.items self.new backend.new
+            (Went D.told HasCause [] self.old backend.old out.old.items self.new backend.new
             out.new.items) }
         ensures less { IfOk result
-            (λ more. more ≡ true → length self.new.pending.items < length self.old.pending.items) }
+            (λ more. more ≡ true → most_turns self.new < most_turns self.old) }
         ensures waits { IfOk result
             (λ more. more ≡ false → Waits self.new.stage self.new.pending.items) }
         ensures unsaid { result ≡ Err ConnFault.Memory → out.new.items ≡ out.old.items }
@@ -146,10 +149,60 @@ impl Connection {
     /// Takes one turn; false: what is pending has to wait for more. Refused, it says nothing.
     fn step<D: Backend>(&mut self, backend: &mut D, out: &mut BytesMut) -> Result<bool, AllocError>
         ensures went { OnOk result
-            (Went D.told HasText [] self.old backend.old out.old.items self.new backend.new
+            (Went D.told HasCause [] self.old backend.old out.old.items self.new backend.new
             out.new.items) }
         ensures less { IfOk result
-            (λ more. more ≡ true → length self.new.pending.items < length self.old.pending.items) }
+            (λ more. more ≡ true → most_turns self.new < most_turns self.old) }
+        ensures waits { IfOk result
+            (λ more. more ≡ false → Waits self.new.stage self.new.pending.items) }
+        ensures unsaid { OnErr result (out.new.items ≡ out.old.items) }
+        ensures asked { OnErr result
+            (Tried D.told (Asks self.old.service self.old.stage self.old.pending.items) backend.old
+            backend.new) }
+    {
+        if self.is_copying() {
+            return self.copy(backend, out);
+        }
+        self.take_turn(backend, out)
+    }
+
+    /// Takes one turn of a copy.
+    fn copy<D: Backend>(&mut self, backend: &mut D, out: &mut BytesMut) -> Result<bool, AllocError>
+        requires { is_copying self.old.stage ≡ true }
+        ensures went { OnOk result
+            (Went D.told HasCause [] self.old backend.old out.old.items self.new backend.new
+            out.new.items) }
+        ensures less { IfOk result
+            (λ more. more ≡ true → most_turns self.new < most_turns self.old) }
+        ensures waits { IfOk result
+            (λ more. more ≡ false → Waits self.new.stage self.new.pending.items) }
+        ensures unsaid { OnErr result (out.new.items ≡ out.old.items) }
+        ensures asked { OnErr result
+            (Tried D.told (Asks self.old.service self.old.stage self.old.pending.items) backend.old
+            backend.new) }
+    {
+        let start = out.len();
+        let stage = mem::replace(&mut self.stage, Stage::Closed);
+        let Ok(stage) = turn_copy(self.alloc, stage, backend, out) else {
+            out.truncate(start);
+            return Err(AllocError);
+        };
+        self.stage = stage;
+        Ok(true)
+    }
+
+    /// Takes one turn for what is pending.
+    fn take_turn<D: Backend>(
+        &mut self,
+        backend: &mut D,
+        out: &mut BytesMut,
+    ) -> Result<bool, AllocError>
+        requires { is_copying self.old.stage ≡ false }
+        ensures went { OnOk result
+            (Went D.told HasCause [] self.old backend.old out.old.items self.new backend.new
+            out.new.items) }
+        ensures less { IfOk result
+            (λ more. more ≡ true → most_turns self.new < most_turns self.old) }
         ensures waits { IfOk result
             (λ more. more ≡ false → Waits self.new.stage self.new.pending.items) }
         ensures unsaid { OnErr result (out.new.items ≡ out.old.items) }
@@ -184,7 +237,7 @@ impl Connection {
         out: &mut BytesMut,
     ) -> Result<(), AllocError>
         ensures went { OnOk result
-            (Went D.told HasText bytes.now self.old backend.old out.old.items self.new backend.new
+            (Went D.told HasCause bytes.now self.old backend.old out.old.items self.new backend.new
             out.new.items) }
         ensures waits { OnOk result (Waits self.new.stage self.new.pending.items) }
         ensures broke { OnErr result
@@ -199,6 +252,12 @@ impl Connection {
         ensures stage { self.new.stage ≡ Closed }
     {
         let _ended = mem::replace(&mut self.stage, Stage::Closed);
+    }
+
+    fn is_copying(&self) -> bool
+        ensures { result ≡ is_copying self.now.stage }
+    {
+        matches!(&self.stage, Stage::Copying(_))
     }
 
     fn is_closed(&self) -> bool
@@ -222,7 +281,7 @@ impl Connection {
     ) -> Result<Phase, ConnFault>
         // The call carries the conversation on.
         ensures went { UnlessMemory result
-            (Went D.told HasText bytes.now self.old backend.old out.old.items self.new backend.new
+            (Went D.told HasCause bytes.now self.old backend.old out.old.items self.new backend.new
             out.new.items) }
         // As far as memory goes, turn by turn.
         ensures broke { result ≡ Err ConnFault.Memory →

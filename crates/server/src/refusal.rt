@@ -20,6 +20,14 @@ pub enum Refusal {
     InitialCopy,
     /// A slot whose snapshot is to be used by a transaction, where there is none.
     NoTransaction,
+    /// Such a slot, where a query was answered before in the transaction.
+    NotFirst,
+    /// A slot in a transaction, whose snapshot is to be exported.
+    ExportInBlock,
+    /// A stream in a transaction.
+    StartInBlock,
+    /// Any query in a transaction that failed, but the ones that end it.
+    BlockFailed,
     /// A parameter that isn't known.
     UnknownParameter,
     /// A step of an extended query.
@@ -52,6 +60,22 @@ impl Refusal {
             Refusal::NoTransaction => (
                 "XX000",
                 "CREATE_REPLICATION_SLOT ... (SNAPSHOT 'use') must be called inside a transaction",
+            ),
+            Refusal::NotFirst => (
+                "XX000",
+                "CREATE_REPLICATION_SLOT ... (SNAPSHOT 'use') must be called before any query",
+            ),
+            Refusal::ExportInBlock => (
+                "XX000",
+                "a slot's snapshot must not be exported inside a transaction",
+            ),
+            Refusal::StartInBlock => (
+                "25001",
+                "START_REPLICATION cannot run inside a transaction block",
+            ),
+            Refusal::BlockFailed => (
+                "25P02",
+                "current transaction is aborted, commands ignored until its end",
             ),
             Refusal::UnknownParameter => ("42704", "unrecognized configuration parameter"),
             Refusal::ExtendedQuery => (
@@ -89,6 +113,13 @@ impl Refusal {
             Refusal::Asked(BackendFault::NotGranted) => {
                 ("42501", "permission denied for publication")
             }
+            Refusal::Asked(BackendFault::NoCopies) => (
+                "0A000",
+                "initial copies are not served: use WITH (copy_data = false)",
+            ),
+            Refusal::Asked(BackendFault::UnknownTable) => ("42P01", "relation does not exist"),
+            Refusal::Asked(BackendFault::UnknownColumn) => ("42703", "column does not exist"),
+            Refusal::Asked(BackendFault::UnknownFilter) => ("42601", "invalid row filter"),
             Refusal::Asked(BackendFault::Memory) => ("53200", "out of memory"),
         }
     }

@@ -11,8 +11,8 @@ use Rattle.publication_config.specs.contracts.published_table.PublishedTable as 
 use Rattle.publication_config.specs.contracts.publication.Publication as publication
 use Rattle.publication.specs.contracts.selection.Selection as selection
 use Rattle.publication.specs.contracts.publications.Publications as publications
-use Rattle.shared_log.specs.declared.name.LogName as log_name
-use Rattle.shared_log.proofs.reader.LogReader.TheSendSync as reader
+use Rattle.shared_log.specs.declared.histories.name.LogName as log_name
+use Rattle.shared_log.proofs.following.reader.LogReader.TheSendSync as reader
 use Rattle.slots.specs.declared.rule.SlotName as slot_name
 use Rattle.slots.proofs.table.SlotTable.TheSendSync as slots
 use Rattle.txlog.proofs.publisher.Publisher.TheSendSync as publisher

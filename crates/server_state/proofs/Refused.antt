@@ -5,8 +5,8 @@ use Rattle.tables.specs.declared.table.Table.{Table}
 use Rattle.tables.specs.Tables.{table_named}
 use Rattle.named_rows.specs.declared.datum.NamedDatum.{NamedDatum}
 use Rattle.named_rows.specs.Fields.{key_columns, row_told}
-use Rattle.txlog.specs.declared.fault.SessionFault.{SessionFault}
-use Rattle.txlog.specs.declared.fault.SessionFault.TheVariants as sessions
+use Rattle.txlog.specs.declared.answers.fault.SessionFault.{SessionFault}
+use Rattle.txlog.specs.declared.answers.fault.SessionFault.TheVariants as sessions
 use Rattle.txlog.specs.Publishing.{IsRefusalOrMemory, delete_refusal, insert_refusal, update_refusal}
 use Rattle.server_state.specs.declared.sessions.change_fault.ChangeFault.{ChangeFault}
 use Rattle.server_state.specs.declared.sessions.change_fault.ChangeFault.TheVariants.{Session}

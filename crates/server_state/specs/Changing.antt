@@ -1,15 +1,15 @@
 -- What a transaction of who builds a service changes, told by the names of tables and columns.
 use Rattle.std.specs.Prelude.{◌≡◌, ◌⊎◌, ℕ, List, map, Option, None, Some, IsSomeAnd, MatchOption}
 use Rattle.tables.specs.declared.table.Table.{Table}
-use Rattle.tables.specs.declared.change.Change.TheVariants as changes
+use Rattle.tables.specs.declared.changes.change.Change.TheVariants as changes
 use Rattle.tables.specs.Tables.{table_named}
 use Rattle.named_rows.specs.declared.datum.NamedDatum.{NamedDatum}
 use Rattle.named_rows.specs.declared.row_view.RowView.{RowView}
 use Rattle.named_rows.specs.Fields.{IsFieldFault, Shows, key_columns, row_told}
 use Rattle.std.specs.Option.{option_map_or}
 use Rattle.store.specs.Rows.{Key}
-use Rattle.txlog.specs.declared.fault.SessionFault.{SessionFault}
-use Rattle.txlog.specs.declared.fault.SessionFault.TheVariants as sessions
+use Rattle.txlog.specs.declared.answers.fault.SessionFault.{SessionFault}
+use Rattle.txlog.specs.declared.answers.fault.SessionFault.TheVariants as sessions
 use Rattle.txlog.specs.Publishing.{IsRefusalOrMemory, after_change, after_delete, after_update, delete_refusal, insert_refusal, update_refusal}
 use Rattle.txlog.specs.Rows.{rows_of}
 use Rattle.server_state.specs.declared.sessions.change_fault.ChangeFault.{ChangeFault}

@@ -1,7 +1,7 @@
 -- How a transaction of who builds a service ends.
 use Rattle.std.specs.Prelude.{◌≡◌, ℕ, ℤ, true, false, Option, None, Some, Result, Ok, Err, IsSome}
 use Rattle.txlog.specs.Publishing.{PublisherState, IsRefusalOrMemory, after_abort, after_begin, after_commit, end_refusal, log_end, receipt_of}
-use Rattle.txlog.specs.declared.fault.SessionFault.{SessionFault}
+use Rattle.txlog.specs.declared.answers.fault.SessionFault.{SessionFault}
 use Rattle.server_state.specs.declared.fault.EndFault.{EndFault}
 use Rattle.server_state.specs.declared.fault.EndFault.TheVariants.{Aborted, Unended}
 use Rattle.server_state.specs.Notices.{News, news_of_commit, news_of_end}

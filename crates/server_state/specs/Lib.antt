@@ -1,4 +1,6 @@
 pub mod Changing
+pub mod Copies
+pub mod Described
 pub mod Ending
 pub mod LogTimes
 pub mod Notices

@@ -6,8 +6,8 @@ use Rattle.publication.specs.Publications.{PublicationSet}
 use Rattle.publication.specs.Choosing.{selected_publications}
 use Rattle.publication.specs.Selection.{selected_oids, selected_table}
 use Rattle.row_messages.specs.Relations.{relation_of}
-use Rattle.server.specs.declared.table_name.TableName.{TableName}
-use Rattle.server.specs.declared.table_name.TableColumns.{TableColumns}
+use Rattle.server.specs.declared.asked.table_name.TableName.{TableName}
+use Rattle.server.specs.declared.asked.table_name.TableColumns.{TableColumns}
 use Rattle.server_state.specs.declared.publications.published.TheConstants.{MOST_NAME_BYTES}
 
 -- A publication has this name. PostgreSQL's names are no longer.

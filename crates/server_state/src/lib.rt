@@ -18,6 +18,7 @@ mod streams;
 
 pub use arrivals::arriving::Place;
 pub use fault::{EndFault, HubFault, ServeFault, SteerFault};
+pub use kept::keeping::SlotSnapshot;
 pub use kept::pool::ReaderSeat;
 pub use opening::configured::ConfigurationFault;
 pub use opening::hub_builder::HubBuilder;
@@ -25,6 +26,9 @@ pub use opening::new_publication::{NewMember, NewPublication};
 pub use opening::new_table::NewTable;
 pub use opening::settings::HubSettings;
 pub use opening::system::SystemName;
+pub use publications::copying::TableCopy;
+pub use publications::described::{attributes_of, found_table};
+pub use publications::members::{column_lists, row_filters};
 pub use publications::published::{known_names, tables_of};
 pub use publications::published_columns::columns_of;
 pub use publications::refusals::{of_publications, of_slot};

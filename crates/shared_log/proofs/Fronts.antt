@@ -3,8 +3,8 @@ use Rattle.std.proofs.Common.{◌≡◌, ◌⊎◌, inl, inr, suc, ◌<◌, ◌�
 use Rattle.std.proofs.lemmas.Bool.{cases_lt}
 use mathlib.Core.List.{IsPrefix}
 use Rattle.wal.specs.declared.record.Record.{Record}
-use Rattle.shared_log.specs.declared.entry.Entry.{Entry}
-use Rattle.shared_log.specs.declared.entry.Entry.TheVariants.{Offered, Confirmed}
+use Rattle.shared_log.specs.declared.histories.entry.Entry.{Entry}
+use Rattle.shared_log.specs.declared.histories.entry.Entry.TheVariants.{Offered, Confirmed}
 use Rattle.shared_log.specs.Fronts.{one_of, settled_from, settled_records, open_from, shown_records, ends_from, ends_confirmed}
 use Rattle.shared_log.proofs.Prefixes.{begins_itself, begins_longer, begins_other}
 

@@ -12,7 +12,7 @@ use Rattle.wal.specs.Restart.{oldest, place_from}
 use Rattle.wal.proofs.Lists.{map_twice}
 use Rattle.wal.proofs.Laws.{follows-append, WellFormedAfter-front}
 use Rattle.std.proofs.lemmas.Bool.{eqb-true}
-use Rattle.shared_log.specs.declared.copy.Logged.{Logged}
+use Rattle.shared_log.specs.declared.histories.copy.Logged.{Logged}
 use Rattle.shared_log.specs.Kept.{kept_in, records_in, with_restarts_from}
 
 -- ---- Records and their restart places.

@@ -7,9 +7,9 @@ use Rattle.wal.specs.declared.record.Record.{Record}
 use Rattle.wal.specs.Log.{end_of}
 use Rattle.wal.specs.Restart.{oldest}
 use Rattle.wal.proofs.Laws.{end_of-append}
-use Rattle.shared_log.specs.declared.edge.Edge.{Edge}
-use Rattle.shared_log.specs.declared.copy.Logged.{Logged}
-use Rattle.shared_log.specs.declared.copy.Put.{Put}
+use Rattle.shared_log.specs.declared.histories.edge.Edge.{Edge}
+use Rattle.shared_log.specs.declared.histories.copy.Logged.{Logged}
+use Rattle.shared_log.specs.declared.histories.copy.Put.{Put}
 use Rattle.shared_log.specs.Kept.{LiesFrom, edge_entered, edge_past, kept_entered, kept_in, with_restarts_from}
 use Rattle.shared_log.specs.Writing.{Waits}
 use Rattle.shared_log.proofs.Kept.{restarts-push}

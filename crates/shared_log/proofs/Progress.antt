@@ -12,7 +12,7 @@ use Rattle.wal.proofs.Laws.{all_when, chain-append, chain-quiet, chain-unassigne
 use Rattle.wal.proofs.Places.{chain-stable}
 use Rattle.wal.proofs.Restarts.{IsNamedIn, all_named}
 use Rattle.wal.proofs.Sections.{ends_in}
-use Rattle.shared_log.specs.declared.openings.Opening.{Opening}
+use Rattle.shared_log.specs.declared.appending.openings.Opening.{Opening}
 use Rattle.shared_log.specs.Openings.{AreOpenings, found_from, is_end, openings_after, owner_of, place_or, place_where, restart_after}
 
 -- ---- What is found first.

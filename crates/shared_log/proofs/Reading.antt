@@ -10,16 +10,16 @@ use Rattle.wal.specs.Log.{IsSized, IsWellFormedLog, end_of, follows}
 use Rattle.wal.specs.Restart.{first_place, is_in_progress, oldest, place_from, restart, restart_place}
 use Rattle.wal.proofs.Laws.{end_of-append, follows-append}
 use Rattle.wal.proofs.Restarts.{within as within_log}
-use Rattle.shared_log.specs.declared.copy.Logged.{Logged}
-use Rattle.shared_log.specs.declared.edge.Edge.{Edge}
+use Rattle.shared_log.specs.declared.histories.copy.Logged.{Logged}
+use Rattle.shared_log.specs.declared.histories.edge.Edge.{Edge}
 use mathlib.Core.List.{IsPrefix}
 use Rattle.shared_log.specs.declared.fault.ReadFault.{ReadFault}
 use Rattle.shared_log.specs.declared.fault.ReadFault.TheVariants as reads
-use Rattle.shared_log.specs.declared.reader.LogReader.{LogReader}
+use Rattle.shared_log.specs.declared.following.reader.LogReader.{LogReader}
 use Rattle.shared_log.specs.Readers.{HasSeen, seen_of}
 use Rattle.shared_log.specs.Removed.{IsUnread}
-use Rattle.shared_log.specs.declared.entry.Entry.{Entry}
-use Rattle.shared_log.specs.declared.entry.Entry.TheVariants.{Offered, Confirmed}
+use Rattle.shared_log.specs.declared.histories.entry.Entry.{Entry}
+use Rattle.shared_log.specs.declared.histories.entry.Entry.TheVariants.{Offered, Confirmed}
 use Rattle.shared_log.specs.Fronts.{one_of, open_from, settled_from, settled_records, shown_records}
 use Rattle.shared_log.specs.Kept.{LiesFrom, kept_in, records_in, with_restarts_from}
 use Rattle.shared_log.proofs.Kept.{all_front, end_at, follows-front, records_of, records_part, restart_at, starts_at}

@@ -8,8 +8,8 @@ use Rattle.atomic_table.proofs.Lists.{at_set, at_snoc}
 use Rattle.logbook.specs.Pages.{Book}
 use Rattle.wal.specs.declared.record.Record.{Record}
 use Rattle.wal.specs.Log.{IsWellFormedLog}
-use Rattle.shared_log.specs.declared.edge.Edge.{Edge}
-use Rattle.shared_log.specs.declared.rule.View.{View}
+use Rattle.shared_log.specs.declared.histories.edge.Edge.{Edge}
+use Rattle.shared_log.specs.declared.histories.rule.View.{View}
 use Rattle.shared_log.specs.Kept.{LiesFrom}
 use Rattle.shared_log.specs.Sharing.{Keeps, Saw, newcomer}
 use Rattle.shared_log.proofs.Prefixes.{begins_itself, begins_longer}

@@ -12,17 +12,17 @@ use Rattle.wal.specs.declared.record.Record.{Record}
 use Rattle.wal.specs.Log.{IsWellFormedLog, end_of}
 use Rattle.wal.specs.Restart.{oldest}
 use Rattle.wal.proofs.Laws.{end_of-append}
-use Rattle.shared_log.specs.declared.entry.Entry.{Entry}
-use Rattle.shared_log.specs.declared.entry.Entry.TheVariants.{Offered, Confirmed}
-use Rattle.shared_log.specs.declared.copy.LogCopy.{LogCopy}
-use Rattle.shared_log.specs.declared.copy.Put.{Put}
-use Rattle.shared_log.specs.declared.law.Law.{Law}
-use Rattle.shared_log.specs.declared.openings.Opening.{Opening}
-use Rattle.shared_log.specs.declared.openings.Openings.{Openings as Noted}
-use Rattle.shared_log.specs.declared.outline.Outline.{Outline}
-use Rattle.shared_log.specs.declared.rule.View.{View}
+use Rattle.shared_log.specs.declared.histories.entry.Entry.{Entry}
+use Rattle.shared_log.specs.declared.histories.entry.Entry.TheVariants.{Offered, Confirmed}
+use Rattle.shared_log.specs.declared.histories.copy.LogCopy.{LogCopy}
+use Rattle.shared_log.specs.declared.histories.copy.Put.{Put}
+use Rattle.shared_log.specs.declared.histories.law.Law.{Law}
+use Rattle.shared_log.specs.declared.appending.openings.Opening.{Opening}
+use Rattle.shared_log.specs.declared.appending.openings.Openings.{Openings as Noted}
+use Rattle.shared_log.specs.declared.appending.outline.Outline.{Outline}
+use Rattle.shared_log.specs.declared.histories.rule.View.{View}
 use Rattle.shared_log.specs.Fronts.{one_of, settled_from, settled_records, open_from, shown_records, ends_confirmed}
-use Rattle.shared_log.specs.declared.edge.Edge.{Edge}
+use Rattle.shared_log.specs.declared.histories.edge.Edge.{Edge}
 use Rattle.shared_log.specs.Kept.{LiesFrom, edge_entered, kept_entered, kept_in}
 use Rattle.shared_log.specs.Openings.{AreOpenings, openings_after, restart_after}
 use Rattle.shared_log.specs.Sharing.{Keeps, Saw}

@@ -2,7 +2,7 @@
 use Rattle.std.specs.Prelude.{◌≡◌, ℕ, ◌<◌, ◌==◌, true, List, [], ◌∷◌, ◌++◌, length, MatchBool}
 use mathlib.Core.List.{IsPrefix}
 use Rattle.logbook.specs.Pages.{Cell, Book, Named, Step, View}
-use Rattle.shared_log.specs.declared.entry.Entry.{Entry}
+use Rattle.shared_log.specs.declared.histories.entry.Entry.{Entry}
 
 -- the first word is the length of the history; the book's second word is not used
 pub record IsKept (cells : List Cell) (history : List Entry) : Type 0 where

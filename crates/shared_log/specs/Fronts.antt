@@ -2,8 +2,8 @@
 -- next one.
 use Rattle.std.specs.Prelude.{Bool, true, false, List, [], ◌∷◌, ◌++◌, Option, Some, None}
 use Rattle.wal.specs.declared.record.Record.{Record}
-use Rattle.shared_log.specs.declared.entry.Entry.{Entry}
-use Rattle.shared_log.specs.declared.entry.Entry.TheVariants.{Offered, Confirmed}
+use Rattle.shared_log.specs.declared.histories.entry.Entry.{Entry}
+use Rattle.shared_log.specs.declared.histories.entry.Entry.TheVariants.{Offered, Confirmed}
 
 abbrev pub one_of : Option Record → List Record
 one_of None = []

@@ -5,8 +5,8 @@ use Rattle.wal.specs.declared.record.TheConstants.{FIRST_POSITION}
 use Rattle.wal.specs.declared.record.Record.{Record}
 use Rattle.wal.specs.Log.{end_of}
 use Rattle.wal.specs.Restart.{oldest}
-use Rattle.shared_log.specs.declared.copy.Logged.{Logged}
-use Rattle.shared_log.specs.declared.edge.Edge.{Edge}
+use Rattle.shared_log.specs.declared.histories.copy.Logged.{Logged}
+use Rattle.shared_log.specs.declared.histories.edge.Edge.{Edge}
 
 abbrev pub records_in : List Logged → List Record
 records_in items = map (λ l. l.entry.value) items

@@ -6,7 +6,7 @@ use Rattle.wal.specs.declared.record.Body.{Body}
 use Rattle.wal.specs.declared.record.Body.TheVariants.{Abort, Commit}
 use Rattle.wal.specs.Log.{is_note, top_of, xid_in}
 use Rattle.wal.specs.Restart.{is_in_progress}
-use Rattle.shared_log.specs.declared.openings.Opening.{Opening}
+use Rattle.shared_log.specs.declared.appending.openings.Opening.{Opening}
 
 -- the place of the first record that passes, counted from a number on
 abbrev pub found_from : ℕ → (Record → Bool) → List Record → Option ℕ

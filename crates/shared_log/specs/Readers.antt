@@ -4,10 +4,10 @@ use mathlib.Core.List.{IsPrefix}
 use Rattle.left_right.specs.Sides.{view}
 use Rattle.wal.specs.declared.record.Record.{Record}
 use Rattle.wal.specs.Log.{IsWellFormedLog}
-use Rattle.shared_log.specs.declared.entry.Entry.{Entry}
+use Rattle.shared_log.specs.declared.histories.entry.Entry.{Entry}
 use Rattle.shared_log.specs.declared.fault.ReadFault.{ReadFault}
 use Rattle.shared_log.specs.declared.fault.ReadFault.TheVariants as reads
-use Rattle.shared_log.specs.declared.reader.LogReader.{LogReader}
+use Rattle.shared_log.specs.declared.following.reader.LogReader.{LogReader}
 use Rattle.shared_log.specs.Fronts.{settled_records, shown_records}
 
 -- the log as its last entry found it

@@ -6,8 +6,8 @@ use lib.ListN.{get_elem?}
 use Rattle.logbook.specs.Pages.{Book}
 use Rattle.wal.specs.declared.record.Record.{Record}
 use Rattle.wal.specs.Log.{IsWellFormedLog}
-use Rattle.shared_log.specs.declared.edge.Edge.{Edge}
-use Rattle.shared_log.specs.declared.rule.View.{View}
+use Rattle.shared_log.specs.declared.histories.edge.Edge.{Edge}
+use Rattle.shared_log.specs.declared.histories.rule.View.{View}
 use Rattle.shared_log.specs.Kept.{LiesFrom}
 
 -- The published log is well formed, its end lies in memory with its restart places, and all that anybody has seen of it is a beginning

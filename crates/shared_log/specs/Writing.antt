@@ -6,12 +6,12 @@ use Rattle.wal.specs.declared.record.TheConstants.{FIRST_POSITION}
 use Rattle.wal.specs.declared.record.Record.{Record}
 use Rattle.wal.specs.Log.{IsWellFormedLog, end_of}
 use Rattle.wal.specs.Restart.{oldest}
-use Rattle.shared_log.specs.declared.entry.Entry.{Entry}
-use Rattle.shared_log.specs.declared.copy.LogCopy.{LogCopy}
-use Rattle.shared_log.specs.declared.copy.Put.{Put}
-use Rattle.shared_log.specs.declared.edge.Edge.{Edge}
-use Rattle.shared_log.specs.declared.openings.Openings.{Openings as Noted}
-use Rattle.shared_log.specs.declared.outline.Outline.{Outline}
+use Rattle.shared_log.specs.declared.histories.entry.Entry.{Entry}
+use Rattle.shared_log.specs.declared.histories.copy.LogCopy.{LogCopy}
+use Rattle.shared_log.specs.declared.histories.copy.Put.{Put}
+use Rattle.shared_log.specs.declared.histories.edge.Edge.{Edge}
+use Rattle.shared_log.specs.declared.appending.openings.Openings.{Openings as Noted}
+use Rattle.shared_log.specs.declared.appending.outline.Outline.{Outline}
 use Rattle.shared_log.specs.Fronts.{settled_records, shown_records, open_from, ends_confirmed}
 use Rattle.shared_log.specs.Kept.{LiesFrom, given_after}
 use Rattle.shared_log.specs.Openings.{AreOpenings, is_end, owner_of}

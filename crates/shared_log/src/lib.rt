@@ -1,45 +1,30 @@
 //! One growing log that many threads see: a writer adds records, and readers fetch them without a lock.
 //!
-//! A `LogWriter` pushes records (`writer.rt`) and gives those back that nobody needs (`given.rt`); each `LogReader` fetches from
-//! its place on (`reader.rt`), and finds where to begin again (`resuming.rt`). `law.rt` and `rule.rt` say what each step of a
+//! A `LogWriter` pushes records (`appending/writer.rt`) and gives those back that nobody needs (`appending/given.rt`); each `LogReader` fetches from
+//! its place on (`following/reader.rt`), and finds where to begin again (`following/resuming.rt`). `histories/law.rt` and `histories/rule.rt` say what each step of a
 //! thread keeps.
 //!
-//! Read `history.rt`, `writer.rt`, `reader.rt`, then specs/Sharing.antt. Above, two contracts are used: a push adds its record
+//! Read `histories/history.rt`, `appending/writer.rt`, `following/reader.rt`, then specs/Sharing.antt. Above, two contracts are used: a push adds its record
 //! whole or changes nothing, and a fetch gives the records from a place on, of one log that only grows.
 #![tactic(auto)]
 
-mod copy;
-mod edge;
-mod entry;
+mod appending;
 mod fault;
-mod front;
-mod given;
-mod history;
-mod law;
-mod mark;
-mod name;
-mod opened;
-mod openings;
-mod outline;
-mod reader;
-mod receipt;
-mod resuming;
-mod rule;
-mod state;
-mod writer;
+mod following;
+mod histories;
 
-pub use copy::{LogCopy, Logged, Put};
-pub use edge::Edge;
-pub use entry::Entry;
+pub use appending::openings::Opening;
+pub use appending::receipt::Receipt;
+pub use appending::writer::LogWriter;
 pub use fault::ReadFault;
-pub use front::Front;
-pub use history::History;
-pub use law::Law;
-pub use mark::Mark;
-pub use name::LogName;
-pub use opened::Opened;
-pub use openings::Opening;
-pub use reader::LogReader;
-pub use receipt::Receipt;
-pub use rule::{Published, View};
-pub use writer::LogWriter;
+pub use following::reader::LogReader;
+pub use histories::copy::{LogCopy, Logged, Put};
+pub use histories::edge::Edge;
+pub use histories::entry::Entry;
+pub use histories::front::Front;
+pub use histories::history::History;
+pub use histories::law::Law;
+pub use histories::mark::Mark;
+pub use histories::name::LogName;
+pub use histories::opened::Opened;
+pub use histories::rule::{Published, View};

@@ -1,17 +1,17 @@
 -- What a claim of a slot's place finds, and leaves.
 use Rattle.std.proofs.Common.{◌≡◌, ℕ, zero, suc, ◌<◌, ◌⊎◌, inl, inr, Bool, true, false, cond, eqb, List, map, Option, Some, None, Result, Ok, Err, MatchResult, OnOk, OnErr, IfOk, option_map, ◌||◌, refl, sym, ap, subst, ◌∙◌, arith, ⊎_elim, ne_eqb}
 use Rattle.std.specs.List.{AllByRecursion}
-use Rattle.slots.specs.declared.directory.Directory.{Directory}
+use Rattle.slots.specs.declared.by_name.directory.Directory.{Directory}
 use Rattle.slots.specs.declared.fault.SlotFault.{SlotFault}
 use Rattle.slots.specs.declared.fault.SlotFault.TheVariants as faults
-use Rattle.slots.specs.declared.step.SlotKind.TheVariants.{Claim}
-use Rattle.slots.specs.declared.step.View.{View}
+use Rattle.slots.specs.declared.words_kept.step.SlotKind.TheVariants.{Claim}
+use Rattle.slots.specs.declared.words_kept.step.View.{View}
 use Rattle.slots.specs.Directories as names
 use Rattle.slots.specs.Facts.{Facts, facts, facts_after}
 use Rattle.slots.specs.Rule.{slot_step}
 use Rattle.slots.specs.Seats.{Did, Holds, IsRefusal}
 use Rattle.slots.specs.Standings.{held_by}
-use Rattle.slots.specs.declared.slot.Slot.{Slot}
+use Rattle.slots.specs.declared.by_name.slot.Slot.{Slot}
 use Rattle.slots.specs.State.{IsOnlyAt, NamedSlot, SlotsState, RefusedExactly, claim_refusal, claim_refusal_of, holds_at, if_at, if_named, is_in_use, place_of, slot_of, slot_with_hold, slots_after_claim}
 use Rattle.slots.specs.Keeping.{IsNamed, StandsIn, shown_slot, slots_in_view}
 use Rattle.slots.proofs.NamedFacts.{Alike, Changes, one_step}

@@ -1,11 +1,11 @@
 -- What reading and raising a position find, and leave.
 use Rattle.std.proofs.Common.{◌≡◌, ℕ, ◌<◌, max, Bool, true, false, cond, eqb, List, [], ◌∷◌, map, Option, Some, option_map, refl, sym, ap, ◌∙◌}
-use Rattle.slots.specs.declared.step.SlotKind.TheVariants.{Raise, Read}
-use Rattle.slots.specs.declared.step.View.{View}
+use Rattle.slots.specs.declared.words_kept.step.SlotKind.TheVariants.{Raise, Read}
+use Rattle.slots.specs.declared.words_kept.step.View.{View}
 use Rattle.slots.specs.Facts.{facts, facts_after}
 use Rattle.slots.specs.Rule.{slot_step}
 use Rattle.slots.specs.Seats.{DidAt}
-use Rattle.slots.specs.declared.slot.Slot.{Slot}
+use Rattle.slots.specs.declared.by_name.slot.Slot.{Slot}
 use Rattle.slots.specs.State.{NamedSlot, confirmed_of, if_at, slot_at, slot_with_confirmed}
 use Rattle.slots.specs.Keeping.{StandsIn, shown_slot, slot_with_noted_position}
 use Rattle.slots.proofs.NamedFacts.{Alike, Changes, one_step}

@@ -1,9 +1,9 @@
 -- A create, place by place.
 use Rattle.std.proofs.Common.{◌≡◌, ℕ, suc, ◌+◌, ◌≤◌, max, List, [], ◌∷◌, ◌++◌, length, sym, refl, ap, ◌∙◌, subst, arith, append_assoc, append-nil}
 use Rattle.std.proofs.lemmas.List.{length_push}
-use Rattle.slots.specs.declared.step.SlotKind.TheVariants.{Create, Raise, Release}
-use Rattle.slots.specs.declared.step.SlotStep.{SlotStep}
-use Rattle.slots.specs.declared.step.View.{View}
+use Rattle.slots.specs.declared.words_kept.step.SlotKind.TheVariants.{Create, Raise, Release}
+use Rattle.slots.specs.declared.words_kept.step.SlotStep.{SlotStep}
+use Rattle.slots.specs.declared.words_kept.step.View.{View}
 use Rattle.slots.specs.Standings.{held_by}
 use Rattle.slots.specs.Facts.{Facts, facts, facts_after}
 use Rattle.slots.specs.Rule.{StandsAs, slot_step, with_step}

@@ -1,6 +1,6 @@
 -- What one more step adds to the facts of a place.
 use Rattle.std.proofs.Common.{◌≡◌, ℕ, Bool, cond, eqb, List, [], ◌∷◌, ◌++◌, refl, ap, ◌∙◌, eq-eqb, ne_eqb}
-use Rattle.slots.specs.declared.step.SlotStep.{SlotStep}
+use Rattle.slots.specs.declared.words_kept.step.SlotStep.{SlotStep}
 use Rattle.slots.specs.Facts.{Facts, facts, facts_from, facts_after, no_facts}
 
 facts_snoc : (p : ℕ) (f : Facts) (ss : List SlotStep) (s : SlotStep) → facts_from p f (ss ++ s ∷ []) ≡ cond (eqb s.place p) (facts_after s (facts_from p f ss)) (facts_from p f ss)

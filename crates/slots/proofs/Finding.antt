@@ -2,11 +2,11 @@
 use Rattle.std.proofs.Common.{◌≡◌, ℕ, Bool, true, false, cond, List, [], ◌∷◌, map, Option, Some, None, refl, sym, ap, subst, ◌∙◌}
 use Rattle.std.specs.Prelude.{IfSome, IsNone}
 use Rattle.std.specs.Str.{bytes_eq}
-use Rattle.slots.specs.declared.directory.Directory.{Directory}
-use Rattle.slots.specs.declared.step.View.{View}
+use Rattle.slots.specs.declared.by_name.directory.Directory.{Directory}
+use Rattle.slots.specs.declared.words_kept.step.View.{View}
 use Rattle.slots.specs.Directories as names
 use Rattle.slots.specs.Facts.{facts}
-use Rattle.slots.specs.declared.slot.Slot.{Slot}
+use Rattle.slots.specs.declared.by_name.slot.Slot.{Slot}
 use Rattle.slots.specs.State.{IsHeldAs, IsOnlyAt, IsUnnamed, NamedSlot, SlotsState, holds_at, is_in_use, place_of, slot_of}
 use Rattle.slots.specs.Keeping.{IsNamed, StandsIn, shown_slot, slots_in_view}
 use Rattle.slots.proofs.Names.{none_shown, only_shown, place_shown, slot_as_named}

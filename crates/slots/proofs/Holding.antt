@@ -2,9 +2,9 @@
 use Rattle.std.proofs.Common.{◌≡◌, ℕ, ◌+◌, ◌*◌, ◌/◌, ◌%◌, ◌<◌, cond, eqb, List, sym, refl, ap, ◌∙◌, subst, arith}
 use mathlib.Core.Option.{none}
 use Rattle.atomic_table.specs.Table.{step}
-use Rattle.slots.specs.declared.step.SlotKind.{SlotKind}
-use Rattle.slots.specs.declared.step.SlotKind.TheVariants.{Create, Claim, Read, Raise}
-use Rattle.slots.specs.declared.step.View.{View}
+use Rattle.slots.specs.declared.words_kept.step.SlotKind.{SlotKind}
+use Rattle.slots.specs.declared.words_kept.step.SlotKind.TheVariants.{Create, Claim, Read, Raise}
+use Rattle.slots.specs.declared.words_kept.step.View.{View}
 use Rattle.slots.specs.Facts.{Facts}
 use Rattle.slots.specs.Standings.{held_by}
 use Rattle.slots.specs.Rule.{claims, creates, place_at, slot_step, state_at, state_word, steps_on, with_step, word_at}

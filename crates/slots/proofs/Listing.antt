@@ -4,9 +4,9 @@ use Rattle.std.specs.List.{AllByRecursion}
 use Rattle.std.specs.Str.{bytes_eq}
 use Rattle.std.proofs.lemmas.Bool.{cases_Bool}
 use Rattle.std.proofs.lemmas.Slice.Eq.{bytes_eq-Decides}
-use Rattle.slots.specs.declared.directory.Directory.{Directory}
+use Rattle.slots.specs.declared.by_name.directory.Directory.{Directory}
 use Rattle.slots.specs.Directories as names
-use Rattle.slots.specs.declared.slot.Slot.{Slot}
+use Rattle.slots.specs.declared.by_name.slot.Slot.{Slot}
 use Rattle.slots.specs.State.{NamedSlot, confirmed_of, slot_of}
 use Rattle.slots.specs.Words.{confirmed_in}
 use Rattle.slots.specs.Keeping.{IsNamed, confirmed_slot, place_in, places_in, slot_with_noted_position}

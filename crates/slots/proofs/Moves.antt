@@ -6,8 +6,8 @@ use mathlib.Core.Option.{some, some-ne-none}
 use lib.ListN.{get_elem?}
 use Rattle.atomic_table.specs.Table.{State}
 use Rattle.atomic_table.proofs.Lists.{at_set}
-use Rattle.slots.specs.declared.step.SlotStep.{SlotStep}
-use Rattle.slots.specs.declared.step.View.{View}
+use Rattle.slots.specs.declared.words_kept.step.SlotStep.{SlotStep}
+use Rattle.slots.specs.declared.words_kept.step.View.{View}
 use Rattle.slots.specs.Facts.{Facts, facts}
 use Rattle.slots.specs.Rule.{Agrees, Leaves, Kept, line_of, with_step, state_at, state_word, position_word}
 use Rattle.slots.proofs.Facts.{facts_there}

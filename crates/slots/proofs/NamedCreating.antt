@@ -1,15 +1,15 @@
 -- What a create at a table's only seat leaves: it takes the place after those that were made.
 use Rattle.std.proofs.Common.{◌≡◌, ℕ, zero, suc, ◌+◌, ◌<◌, ◌≤◌, max, Bool, ◌||◌, List, [], ◌∷◌, ◌++◌, length, refl, sym, ap, subst, ◌∙◌, arith, append_assoc, append-nil, ⊎_elim, ne_eqb}
 use Rattle.std.proofs.lemmas.Bool.{cases_eq, cases_lt}
-use Rattle.slots.specs.declared.step.SlotKind.TheVariants.{Create, Raise, Release}
-use Rattle.slots.specs.declared.step.SlotStep.{SlotStep}
-use Rattle.slots.specs.declared.step.View.{View}
+use Rattle.slots.specs.declared.words_kept.step.SlotKind.TheVariants.{Create, Raise, Release}
+use Rattle.slots.specs.declared.words_kept.step.SlotStep.{SlotStep}
+use Rattle.slots.specs.declared.words_kept.step.View.{View}
 use Rattle.slots.specs.Facts.{Facts, facts, facts_after}
 use Rattle.slots.specs.Rule.{slot_step}
 use Rattle.slots.specs.Seats.{AreTaken, Created, NoneLeft, steps_past}
 use Rattle.slots.specs.Standings.{held_by}
 use Rattle.slots.proofs.Facts.{facts_here, facts_there}
-use Rattle.slots.specs.declared.slot.Slot.{Slot}
+use Rattle.slots.specs.declared.by_name.slot.Slot.{Slot}
 use Rattle.slots.specs.Keeping.{StandsIn}
 use Rattle.slots.proofs.NamedFacts.{Alike, Changes, alike, alike_then}
 use Rattle.slots.proofs.NamedStanding.{used_made}

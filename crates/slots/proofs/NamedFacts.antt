@@ -1,7 +1,7 @@
 -- What one step more leaves at each place, as far as the slots ask for it.
 use Rattle.std.proofs.Common.{◌≡◌, ℕ, refl, sym, ap, ◌∙◌}
-use Rattle.slots.specs.declared.step.SlotStep.{SlotStep}
-use Rattle.slots.specs.declared.step.View.{View}
+use Rattle.slots.specs.declared.words_kept.step.SlotStep.{SlotStep}
+use Rattle.slots.specs.declared.words_kept.step.View.{View}
 use Rattle.slots.specs.Facts.{Facts, facts, facts_after}
 use Rattle.slots.specs.Rule.{with_step}
 use Rattle.slots.proofs.Facts.{facts_here, facts_there}

@@ -3,10 +3,10 @@ use Rattle.std.proofs.Common.{◌≡◌, ℕ, ◌<◌, inl, inr, max, Bool, true
 use Rattle.std.specs.List.{AllByRecursion, Contains}
 use Rattle.std.proofs.lemmas.Bool.{cases_eq, cases_lt}
 use Rattle.std.proofs.lemmas.List.Elements.{All-contains, All-from_recursion}
-use Rattle.slots.specs.declared.step.View.{View}
+use Rattle.slots.specs.declared.words_kept.step.View.{View}
 use Rattle.slots.specs.Facts.{Facts, facts}
 use Rattle.slots.specs.Standings.{held_by}
-use Rattle.slots.specs.declared.slot.Slot.{Slot}
+use Rattle.slots.specs.declared.by_name.slot.Slot.{Slot}
 use Rattle.slots.specs.State.{NamedSlot, if_at, slot_at, is_in_use, slot_with_hold, slot_with_confirmed}
 use Rattle.slots.specs.Keeping.{IsUsedUp, Stands, StandsIn, places_in, shown_slot, slot_with_noted_position}
 use Rattle.slots.proofs.NamedFacts.{Alike, Changes, alike_then}

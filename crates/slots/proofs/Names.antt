@@ -5,10 +5,10 @@ use Rattle.std.specs.Prelude.{is_some, option_map}
 use Rattle.std.specs.Str.{bytes_eq}
 use Rattle.std.proofs.lemmas.Bool.{cases_eq, cases_Bool}
 use Rattle.std.proofs.lemmas.Slice.Eq.{bytes_eq-Decides}
-use Rattle.slots.specs.declared.directory.Directory.{Directory}
-use Rattle.slots.specs.declared.step.View.{View}
+use Rattle.slots.specs.declared.by_name.directory.Directory.{Directory}
+use Rattle.slots.specs.declared.words_kept.step.View.{View}
 use Rattle.slots.specs.Directories as names
-use Rattle.slots.specs.declared.slot.Slot.{Slot}
+use Rattle.slots.specs.declared.by_name.slot.Slot.{Slot}
 use Rattle.slots.specs.State.{IsOnlyAt, NamedSlot, if_at, if_named, slot_at, slot_of}
 use Rattle.slots.specs.Keeping.{IsNamed, place_in, shown_slot, confirmed_slot}
 

@@ -1,8 +1,8 @@
 -- A new table has no slots.
 use Rattle.std.proofs.Common.{◌≡◌, ℕ, List, [], ◌∷◌, ◌++◌, Some, None, refl, sym, subst, ◌∙◌, arith}
 use Rattle.std.proofs.lemmas.List.{same_from_push}
-use Rattle.slots.specs.declared.directory.Directory.{Directory}
-use Rattle.slots.specs.declared.step.View.{View}
+use Rattle.slots.specs.declared.by_name.directory.Directory.{Directory}
+use Rattle.slots.specs.declared.words_kept.step.View.{View}
 use Rattle.slots.specs.Directories as names
 use Rattle.slots.specs.Seats.{first_of}
 use Rattle.slots.specs.Keeping.{IsNamed, StandsIn}

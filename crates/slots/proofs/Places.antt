@@ -2,7 +2,7 @@
 use Rattle.std.proofs.Common.{◌≡◌, ℕ, ◌<◌, ◌≤◌, ◌≢◌, Bool, true, false, not, ◌&&◌, ◌||◌, cond, eqb, max, Option, Some, None, refl, ap, ◌∙◌, arith, ⊎_elim}
 use Rattle.std.specs.Prelude.{nat_lt}
 use Rattle.std.proofs.lemmas.Bool.{or_cases, eqb-true, le-ltb, false≢true}
-use Rattle.slots.specs.declared.step.SlotKind.TheVariants.{Create, Claim, Read, Raise, Release, Retire}
+use Rattle.slots.specs.declared.words_kept.step.SlotKind.TheVariants.{Create, Claim, Read, Raise, Release, Retire}
 use Rattle.slots.specs.Standings.{held_by}
 use Rattle.slots.specs.Facts.{Facts, facts_after}
 use Rattle.slots.specs.Rule.{Agrees, slot_step}

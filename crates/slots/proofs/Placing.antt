@@ -5,17 +5,17 @@ use Rattle.std.specs.Prelude.{is_some}
 use Rattle.std.specs.Result.{IsErrAnd}
 use Rattle.std.proofs.lemmas.Bool.{cases_eq}
 use Rattle.std.proofs.lemmas.List.Elements.{Contains-append_left, Contains-push}
-use Rattle.slots.specs.declared.directory.Directory.{Directory}
+use Rattle.slots.specs.declared.by_name.directory.Directory.{Directory}
 use Rattle.slots.specs.declared.fault.SlotFault.{SlotFault}
 use Rattle.slots.specs.declared.fault.SlotFault.TheVariants as faults
-use Rattle.slots.specs.declared.step.SlotKind.TheVariants.{Retire}
-use Rattle.slots.specs.declared.step.View.{View}
+use Rattle.slots.specs.declared.words_kept.step.SlotKind.TheVariants.{Retire}
+use Rattle.slots.specs.declared.words_kept.step.View.{View}
 use Rattle.slots.specs.Directories as names
 use Rattle.slots.specs.Facts.{Facts, facts, facts_after}
 use Rattle.slots.specs.Rule.{slot_step}
 use Rattle.slots.specs.Seats.{Created, Did, IsRefusal}
 use Rattle.slots.specs.Standings.{held_by}
-use Rattle.slots.specs.declared.slot.Slot.{Slot}
+use Rattle.slots.specs.declared.by_name.slot.Slot.{Slot}
 use Rattle.slots.specs.State.{IsRefusalOrMemory, NamedSlot, RefusedOrMemory, create_refusal}
 use Rattle.slots.specs.Keeping.{IsNamed, IsUsedUp, Stands, StandsIn, places_in, shown_slot, slots_in_view}
 use Rattle.slots.proofs.NamedFacts.{Changes, changes_then, one_step}

@@ -6,10 +6,10 @@ use lib.ListN.{get_elem?}
 use prog.Atomic.{either}
 use Rattle.atomic_table.specs.Table.{keeps, stepped, step, Allows}
 use Rattle.std.proofs.lemmas.Bool.{eqb-true}
-use Rattle.slots.specs.declared.step.SlotKind.{SlotKind}
-use Rattle.slots.specs.declared.step.SlotKind.TheVariants.{Create, Claim, Read, Raise, Release, Retire}
-use Rattle.slots.specs.declared.step.SlotStep.{SlotStep}
-use Rattle.slots.specs.declared.step.View.{View}
+use Rattle.slots.specs.declared.words_kept.step.SlotKind.{SlotKind}
+use Rattle.slots.specs.declared.words_kept.step.SlotKind.TheVariants.{Create, Claim, Read, Raise, Release, Retire}
+use Rattle.slots.specs.declared.words_kept.step.SlotStep.{SlotStep}
+use Rattle.slots.specs.declared.words_kept.step.View.{View}
 use Rattle.slots.specs.Standings.{held_by}
 use Rattle.slots.specs.Facts.{Facts, facts, facts_after}
 use Rattle.slots.specs.Rule.{Agrees, HeldAt, Leaves, Kept, StandsAs, FollowsOn, generation_of, line_of, slot_step, state_at, steps_on, with_step, state_word, position_word, place_at, word_at, creates, claims, retires, releases, raises, reads}

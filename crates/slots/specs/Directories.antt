@@ -2,7 +2,7 @@
 use Rattle.std.specs.Prelude.{◌≡◌, ℕ, List, cond, Option, Some, None}
 use Rattle.std.specs.Str.{bytes_eq}
 use Rattle.std.specs.BTreeMap.{btree_map_len, get_by_text}
-use Rattle.slots.specs.declared.directory.Directory.{Directory}
+use Rattle.slots.specs.declared.by_name.directory.Directory.{Directory}
 use Rattle.slots.specs.declared.fault.SlotFault.{SlotFault}
 use Rattle.slots.specs.declared.fault.SlotFault.TheVariants.{Exists, Memory}
 

@@ -1,8 +1,8 @@
 -- What the steps of one seat say of one place. The words of a place: 0 was never made, 1 is free, 2 was dropped, n + 3 is held by seat n.
 use Rattle.std.specs.Prelude.{ℕ, ◌==◌, Bool, true, false, ◌&&◌, ◌||◌, not, cond, List, [], ◌∷◌, Option, Some, None, max, nat_lt}
-use Rattle.slots.specs.declared.step.SlotKind.{SlotKind}
-use Rattle.slots.specs.declared.step.SlotKind.TheVariants.{Create, Claim, Release, Retire}
-use Rattle.slots.specs.declared.step.SlotStep.{SlotStep}
+use Rattle.slots.specs.declared.words_kept.step.SlotKind.{SlotKind}
+use Rattle.slots.specs.declared.words_kept.step.SlotKind.TheVariants.{Create, Claim, Release, Retire}
+use Rattle.slots.specs.declared.words_kept.step.SlotStep.{SlotStep}
 
 pub record Facts : Type 0 where
   pub state : ℕ  -- what its last step on the state word left

@@ -2,13 +2,13 @@
 use Rattle.std.specs.Prelude.{◌≡◌, ℕ, ◌<◌, ◌≤◌, ◌==◌, ◌⊎◌, cond, List, [], ◌∷◌, map, Option, Some, None, if◌then◌else◌}
 use Rattle.std.specs.List.{AllByRecursion, Contains}
 use Rattle.std.specs.Str.{bytes_eq}
-use Rattle.slots.specs.declared.directory.Directory.{Directory}
-use Rattle.slots.specs.declared.standing.Standing.TheVariants.{Dropped}
-use Rattle.slots.specs.declared.step.View.{View}
+use Rattle.slots.specs.declared.by_name.directory.Directory.{Directory}
+use Rattle.slots.specs.declared.words_kept.standing.Standing.TheVariants.{Dropped}
+use Rattle.slots.specs.declared.words_kept.step.View.{View}
 use Rattle.slots.specs.Directories as names
 use Rattle.slots.specs.Facts.{facts}
 use Rattle.slots.specs.Standings.{held_by, word_of}
-use Rattle.slots.specs.declared.slot.Slot.{Slot}
+use Rattle.slots.specs.declared.by_name.slot.Slot.{Slot}
 use Rattle.slots.specs.declared.table.TheConstants.{PLACES}
 use Rattle.slots.specs.State.{NamedSlot, SlotsState}
 

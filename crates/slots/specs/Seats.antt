@@ -4,10 +4,10 @@ use mathlib.Core.Option.{some}
 use lib.ListN.{get_elem?}
 use Rattle.slots.specs.declared.fault.SlotFault.{SlotFault}
 use Rattle.slots.specs.declared.fault.SlotFault.TheVariants.{Missing, InUse}
-use Rattle.slots.specs.declared.step.SlotKind.{SlotKind}
-use Rattle.slots.specs.declared.step.SlotKind.TheVariants.{Create, Raise, Release}
-use Rattle.slots.specs.declared.step.SlotStep.{SlotStep}
-use Rattle.slots.specs.declared.step.View.{View}
+use Rattle.slots.specs.declared.words_kept.step.SlotKind.{SlotKind}
+use Rattle.slots.specs.declared.words_kept.step.SlotKind.TheVariants.{Create, Raise, Release}
+use Rattle.slots.specs.declared.words_kept.step.SlotStep.{SlotStep}
+use Rattle.slots.specs.declared.words_kept.step.View.{View}
 use Rattle.slots.specs.Facts.{facts}
 use Rattle.slots.specs.Rule.{Slots, StandsAs, FollowsOn, slot_step, with_step}
 use Rattle.slots.specs.Standings.{held_by}

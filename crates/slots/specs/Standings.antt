@@ -1,7 +1,7 @@
 -- How a place stands, and the word that says so.
 use Rattle.std.specs.Prelude.{ℕ, zero, suc, ◌+◌}
-use Rattle.slots.specs.declared.standing.Standing.{Standing}
-use Rattle.slots.specs.declared.standing.Standing.TheVariants.{Never, Free, Dropped, Held}
+use Rattle.slots.specs.declared.words_kept.standing.Standing.{Standing}
+use Rattle.slots.specs.declared.words_kept.standing.Standing.TheVariants.{Never, Free, Dropped, Held}
 
 -- the word of a place that this seat holds
 abbrev pub held_by : ℕ → ℕ

@@ -1,7 +1,7 @@
 -- What a start says of a slot: the word that names one or none, and what becomes of that slot.
 use Rattle.std.specs.Prelude.{ℕ, max, not, is_some, codes, Bool, false, List, [], ◌∷◌, Option, Some, None, if◌then◌else◌}
 use Rattle.std.specs.Str.{bytes_eq}
-use Rattle.slots.specs.declared.slot.Slot.{Slot}
+use Rattle.slots.specs.declared.by_name.slot.Slot.{Slot}
 use Rattle.slots.specs.State.{SlotsState, confirmed_of, is_in_use, slot_of, slots_after_claim, slots_after_raise_by_name, slots_after_release_by_name}
 
 -- the slot that a start names; `-` is none

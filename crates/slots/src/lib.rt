@@ -6,36 +6,31 @@
 //! the steps that threads take (`table.rt`), each for a `SlotSeat`; `Directory` has the names; `NamedSlots` and `HeldSlots` put
 //! the two together for one thread.
 //!
-//! Read `slot_word.rt`, `step.rt`, `table.rt`, `directory.rt`. Above, one law is used: between any two steps a slot has at most
+//! Read `words_kept/slot_word.rt`, `words_kept/step.rt`, `table.rt`, `by_name/directory.rt`. Above, one law is used: between any two steps a slot has at most
 //! one holder, and its position never goes back (`no_slot_has_two_holders`).
 #![tactic(auto)]
 
-mod directory;
+mod by_name;
 mod fault;
-mod held;
 mod lease;
-mod named;
-mod naming;
 mod opened;
 mod rule;
 mod seat;
-mod slot;
-mod slot_word;
-mod standing;
-mod step;
 mod table;
-mod words;
+mod words_kept;
 
-pub use directory::Directory;
+pub use by_name::directory::Directory;
+pub use by_name::held::HeldSlots;
+pub use by_name::named::NamedSlots;
+pub use by_name::slot::Slot;
 pub use fault::SlotFault;
-pub use held::HeldSlots;
 pub use lease::Lease;
-pub use named::NamedSlots;
 pub use opened::OpenedSlots;
 pub use rule::{SlotName, no_slot_has_two_holders};
 pub use seat::SlotSeat;
-pub use slot::Slot;
-pub use slot_word::{confirm, is_held, is_missing, let_go, slot_named, start_from, take};
-pub use standing::Standing;
-pub use step::{SlotKind, SlotStep, View};
 pub use table::{END_OF_PLACES, LINES, MOST_SEATS, PLACES, SlotTable};
+pub use words_kept::slot_word::{
+    confirm, is_held, is_missing, let_go, slot_named, start_from, take,
+};
+pub use words_kept::standing::Standing;
+pub use words_kept::step::{SlotKind, SlotStep, View};

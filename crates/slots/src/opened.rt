@@ -3,14 +3,14 @@
 ghost use Rattle.std.specs.Prelude.{◌≡◌, ◌<◌, ◌≤◌, ◌++◌, ◌∷◌, All, IfOk, List, [], vec_len};
 ghost use Rattle.slots.specs.Rule.{first_view};
 ghost use Rattle.slots.specs.Seats.{IsFresh, first_of};
-ghost use Rattle.slots.specs.declared.step.View.{View};
+ghost use Rattle.slots.specs.declared.words_kept.step.View.{View};
 ghost use Rattle.slots.specs.declared.table.TheConstants.{MOST_SEATS};
 
 use crate::rule::{Law, Seats, SlotName};
 use crate::seat::SlotSeat;
-use crate::step::View;
 use crate::table::SlotTable;
-use crate::words::WORDS;
+use crate::words_kept::step::View;
+use crate::words_kept::words::WORDS;
 use atomic_table::{Seat, Table};
 use std::alloc::{AllocError, Global};
 use std::marker::PhantomData;

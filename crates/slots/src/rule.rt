@@ -3,7 +3,7 @@
 ghost use Rattle.slots.specs.Rule.{Kept, Slots};
 ghost use Rattle.slots.specs.Seats.{HasOneHolder};
 
-use crate::step::View;
+use crate::words_kept::step::View;
 use atomic_table::{Play, Split, TableRule};
 use std::marker::Brand;
 

@@ -1,7 +1,7 @@
 //! A seat at a table of slots.
 
 use crate::rule::SlotName;
-use crate::step::View;
+use crate::words_kept::step::View;
 use atomic_table::Seat;
 use std::marker::{Model, PhantomData};
 
@@ -15,7 +15,7 @@ pub struct SlotSeat<L: SlotName> {
 
 impl<L: SlotName> Model for SlotSeat<L> {
     ghost use Rattle.std.specs.Prelude.{◌≡◌, ◌<◌, []};
-    ghost use Rattle.slots.specs.declared.step.View.{View};
+    ghost use Rattle.slots.specs.declared.words_kept.step.View.{View};
 
     ghost Value = { View };
 

@@ -6,15 +6,15 @@ ghost use Rattle.slots.specs.Seats.{Created, Did, DidAt, Holds, IsRefusal, Made,
 ghost use Rattle.slots.specs.Standings.{held_by};
 ghost use Rattle.slots.specs.declared.fault.SlotFault.TheVariants.{NoPlace};
 ghost use Rattle.slots.specs.declared.table.TheConstants.{END_OF_PLACES, PLACES};
-ghost use Rattle.slots.specs.declared.step.SlotKind.TheVariants.{Claim, Create, Raise, Read, Release, Retire};
+ghost use Rattle.slots.specs.declared.words_kept.step.SlotKind.TheVariants.{Claim, Create, Raise, Read, Release, Retire};
 
 use crate::fault::SlotFault;
 use crate::lease::Lease;
 use crate::rule::{Claims, Creates, Law, Raises, Reads, Releases, Retires, SlotName};
 use crate::seat::SlotSeat;
-use crate::standing::Standing;
-use crate::step::View;
-use crate::words::{position_word, state_at, state_word, word_at, word_past};
+use crate::words_kept::standing::Standing;
+use crate::words_kept::step::View;
+use crate::words_kept::words::{position_word, state_at, state_word, word_at, word_past};
 use atomic_table::Table;
 use std::alloc::Global;
 use std::marker::PhantomData;

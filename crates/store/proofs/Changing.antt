@@ -9,16 +9,16 @@ use Rattle.pqformat.specs.Fields.{int32, number_at}
 use Rattle.pqformat.proofs.Numbers.{number32}
 use Rattle.tables.specs.declared.fault.BodyFault.{BodyFault}
 use Rattle.tables.specs.declared.fault.BodyFault.TheVariants.{Short}
-use Rattle.store.specs.declared.key.TheConstants.{MAX_KEY_LENGTH}
-use Rattle.tables.specs.declared.row.TheConstants.{MAX_ROW_LENGTH}
+use Rattle.store.specs.declared.places.key.TheConstants.{MAX_KEY_LENGTH}
+use Rattle.tables.specs.declared.rows.row.TheConstants.{MAX_ROW_LENGTH}
 use Rattle.store.specs.declared.store_fault.StoreFault.{StoreFault}
 use Rattle.store.specs.declared.store_fault.StoreFault.TheVariants as faults
-use Rattle.store.specs.declared.slot.Slot.{Slot}
+use Rattle.store.specs.declared.places.slot.Slot.{Slot}
 use Rattle.tables.specs.declared.kinds.Value.{Value}
 use Rattle.tables.specs.declared.table.Table.{Table}
-use Rattle.tables.specs.declared.change.Change.{Change}
-use Rattle.tables.specs.declared.message.Message.{Message}
-use Rattle.tables.specs.declared.change.Change.TheVariants as changes
+use Rattle.tables.specs.declared.changes.change.Change.{Change}
+use Rattle.tables.specs.declared.changes.message.Message.{Message}
+use Rattle.tables.specs.declared.changes.change.Change.TheVariants as changes
 use Rattle.store.specs.Slots.{same_key, vacant, slot_at}
 use Rattle.store.specs.Rows.{Key, key_text, key_of, key_in}
 use Rattle.tables.specs.Spelling.{row_length}

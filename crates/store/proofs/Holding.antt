@@ -6,11 +6,11 @@ use Rattle.std.specs.Prelude.{Option}
 use Rattle.std.specs.List.{AllByRecursion}
 use Rattle.pqformat.specs.Fields.{int32}
 use Rattle.pqformat.proofs.Numbers.{length-int32}
-use Rattle.store.specs.declared.slot.Slot.{Slot}
+use Rattle.store.specs.declared.places.slot.Slot.{Slot}
 use Rattle.tables.specs.declared.kinds.Value.{Value}
 use Rattle.tables.specs.declared.table.Table.{Table}
-use Rattle.tables.specs.declared.change.Change.{Change}
-use Rattle.tables.specs.declared.change.Change.TheVariants as changes
+use Rattle.tables.specs.declared.changes.change.Change.{Change}
+use Rattle.tables.specs.declared.changes.change.Change.TheVariants as changes
 use Rattle.store.specs.Slots.{same_key, vacant}
 use Rattle.store.specs.Rows.{Key, Rows, key_text}
 use Rattle.tables.specs.Tables.{FitsRow, FitsChange}

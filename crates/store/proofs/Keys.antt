@@ -3,8 +3,8 @@ use Rattle.std.proofs.Common.{◌≡◌, ℕ, zero, suc, ◌+◌, ◌<◌, ◌�
 use Rattle.std.specs.List.{flat_map}
 use Rattle.pqformat.specs.Fields.{int32}
 use Rattle.pqformat.proofs.Numbers.{length-int32}
-use Rattle.store.specs.declared.key.TheConstants.{MAX_KEY_LENGTH}
-use Rattle.tables.specs.declared.row.TheConstants.{MAX_ROW_LENGTH}
+use Rattle.store.specs.declared.places.key.TheConstants.{MAX_KEY_LENGTH}
+use Rattle.tables.specs.declared.rows.row.TheConstants.{MAX_ROW_LENGTH}
 use Rattle.tables.specs.declared.column.Column.{Column}
 use Rattle.tables.specs.declared.kinds.Value.{Value}
 use Rattle.store.specs.Rows.{key_text, key_values}

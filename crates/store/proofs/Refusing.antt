@@ -7,12 +7,12 @@ use Rattle.std.specs.Cmp.{nat_eq_equiv}
 use Rattle.std.proofs.lemmas.Bool.{eqb-true}
 use Rattle.std.proofs.lemmas.Map.Steps.{length-le_from_keys}
 use Rattle.pqformat.specs.Fields.{int32}
-use Rattle.store.specs.declared.slot.Slot.{Slot}
-use Rattle.store.specs.declared.slot.Undo.{Undo}
+use Rattle.store.specs.declared.places.slot.Slot.{Slot}
+use Rattle.store.specs.declared.places.slot.Undo.{Undo}
 use Rattle.tables.specs.declared.table.Table.{Table}
-use Rattle.tables.specs.declared.change_body.TheConstants.{MAX_TRUNCATED}
-use Rattle.tables.specs.declared.change.Change.{Change}
-use Rattle.tables.specs.declared.change.Change.TheVariants as changes
+use Rattle.tables.specs.declared.changes.change_body.TheConstants.{MAX_TRUNCATED}
+use Rattle.tables.specs.declared.changes.change.Change.{Change}
+use Rattle.tables.specs.declared.changes.change.Change.TheVariants as changes
 use Rattle.store.specs.declared.store_fault.StoreFault.TheVariants as faults
 use Rattle.store.specs.Slots.{same_key, vacant, Entries, slot_at, CanUndo, undone_at}
 use Rattle.tables.specs.Tables.{table_of, FitsChange}

@@ -4,11 +4,11 @@ use Rattle.std.specs.Prelude.{Option, nat_eq, unwrap_or}
 use Rattle.std.proofs.lemmas.Bool.{eqb-true}
 use Rattle.std.specs.List.{AllByRecursion}
 use Rattle.std.specs.Map.{lookup}
-use Rattle.store.specs.declared.key.TheConstants.{MAX_KEY_LENGTH}
-use Rattle.store.specs.declared.slot.Slot.{Slot}
-use Rattle.store.specs.declared.slot.Undo.{Undo}
+use Rattle.store.specs.declared.places.key.TheConstants.{MAX_KEY_LENGTH}
+use Rattle.store.specs.declared.places.slot.Slot.{Slot}
+use Rattle.store.specs.declared.places.slot.Undo.{Undo}
 use Rattle.tables.specs.declared.table.Table.{Table}
-use Rattle.tables.specs.declared.change.Change.{Change}
+use Rattle.tables.specs.declared.changes.change.Change.{Change}
 use Rattle.store.specs.Slots.{same_key, vacant, Entries, slot_at, slots_with, is_used, CanUndo, undone_at}
 use Rattle.store.specs.Rows.{Key, key_text}
 use Rattle.tables.specs.Tables.{FitsChange}

@@ -7,8 +7,8 @@ use Rattle.std.specs.Map.{keys_of}
 use Rattle.std.proofs.lemmas.Map.Keys.{IsDistinct-head, IsDistinct-tail}
 use Rattle.pqformat.specs.Fields.{int32}
 use Rattle.pqformat.proofs.Numbers.{length-int32}
-use Rattle.store.specs.declared.slot.Slot.{Slot}
-use Rattle.store.specs.declared.slot.Undo.{Undo}
+use Rattle.store.specs.declared.places.slot.Slot.{Slot}
+use Rattle.store.specs.declared.places.slot.Undo.{Undo}
 use Rattle.tables.specs.declared.kinds.Value.{Value}
 use Rattle.store.specs.Slots.{same_key, Entries, entries_of, slot_at, slots_with, is_used, CanUndo, undone_at}
 use Rattle.store.specs.History.{is_other, is_within, is_among, table_place}

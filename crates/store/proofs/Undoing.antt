@@ -10,10 +10,10 @@ use Rattle.std.specs.Cmp.Lexicographic.{pointwise}
 use Rattle.std.specs.Prelude.{Option, unwrap_or, None, IsSome, is_some, Vec, nat_eq}
 use Rattle.indexmap.specs.IndexMap.{insert_entry, swap_remove_entry}
 use Rattle.std.specs.List.{AllByRecursion}
-use Rattle.store.specs.declared.slot.Slot.{Slot}
-use Rattle.store.specs.declared.slot.Undo.{Undo}
+use Rattle.store.specs.declared.places.slot.Slot.{Slot}
+use Rattle.store.specs.declared.places.slot.Undo.{Undo}
 use Rattle.store.specs.Slots.{same_key, vacant, Entries, entries_of, slot_at, slots_with, is_used, AreUsed, CanUndo, undone_at}
-use Rattle.store.specs.declared.key.TheConstants.{MAX_KEY_LENGTH}
+use Rattle.store.specs.declared.places.key.TheConstants.{MAX_KEY_LENGTH}
 use Rattle.store.specs.History.{is_top, owner_after_end}
 use Rattle.store.specs.Keeping.{AreShort, SameSlots, is_noted, slot_after_end}
 

@@ -2,10 +2,10 @@
 -- Callers need not look here.
 use Rattle.std.specs.Prelude.{◌≡◌, ℕ, ◌≤◌, ◌==◌, ◌∷◌, ◌++◌, [], Bool, true, false, ◌&&◌, ◌||◌, is_some, List, length, None, Some, if◌then◌else◌}
 use Rattle.std.specs.List.{AllByRecursion}
-use Rattle.store.specs.declared.key.TheConstants.{MAX_KEY_LENGTH}
-use Rattle.store.specs.declared.slot.Slot.{Slot}
-use Rattle.store.specs.declared.slot.Undo.{Undo}
-use Rattle.tables.specs.declared.change.Change.{Change}
+use Rattle.store.specs.declared.places.key.TheConstants.{MAX_KEY_LENGTH}
+use Rattle.store.specs.declared.places.slot.Slot.{Slot}
+use Rattle.store.specs.declared.places.slot.Undo.{Undo}
+use Rattle.tables.specs.declared.changes.change.Change.{Change}
 use Rattle.store.specs.Slots.{same_key, Entries, slot_at, undone_at, CanUndo}
 use Rattle.store.specs.History.{change_made, is_other, is_within}
 use Rattle.store.specs.Keeping.{StoreState, journal_of, all_emptied, put_at, emptied_slot, touches, slot_by, AreShort}

@@ -3,13 +3,13 @@
 use Rattle.std.specs.Prelude.{◌≡◌, ℕ, ◌==◌, ◌∷◌, [], ◌++◌, Bool, false, ◌&&◌, ◌||◌, not, List, length, map, take, suc, zero, Option, Some, None, is_some, nat_lt, if◌then◌else◌}
 use Rattle.std.specs.List.{list_all, list_any}
 use Rattle.pqformat.specs.Fields.{int32}
-use Rattle.tables.specs.declared.row.TheConstants.{MAX_ROW_LENGTH}
-use Rattle.tables.specs.declared.change_body.TheConstants.{MAX_TRUNCATED}
-use Rattle.tables.specs.declared.message.TheConstants.{MAX_CONTENT_LENGTH}
+use Rattle.tables.specs.declared.rows.row.TheConstants.{MAX_ROW_LENGTH}
+use Rattle.tables.specs.declared.changes.change_body.TheConstants.{MAX_TRUNCATED}
+use Rattle.tables.specs.declared.changes.message.TheConstants.{MAX_CONTENT_LENGTH}
 use Rattle.tables.specs.declared.kinds.Value.{Value}
 use Rattle.tables.specs.declared.table.Table.{Table}
-use Rattle.tables.specs.declared.change.Change.{Change}
-use Rattle.tables.specs.declared.change.Change.TheVariants as changes
+use Rattle.tables.specs.declared.changes.change.Change.{Change}
+use Rattle.tables.specs.declared.changes.change.Change.TheVariants as changes
 use Rattle.store.specs.declared.store_fault.StoreFault.{StoreFault}
 use Rattle.store.specs.declared.store_fault.StoreFault.TheVariants as faults
 use Rattle.tables.specs.Spelling.{row_length}

@@ -6,9 +6,9 @@ ghost use Rattle.store.specs.Emptying.{AreNoted, IsOf, emptied_at, taken_at};
 ghost use Rattle.store.specs.Keeping.{SameSlots, all_emptied, put_at};
 ghost use Rattle.store.specs.Slots.{Entries, slot_at};
 
-use crate::key::Place;
-use crate::slot::Undo;
-use crate::slots::Slots;
+use crate::places::key::Place;
+use crate::places::slot::Undo;
+use crate::places::slots::Slots;
 use pqformat::Items;
 use std::alloc::{AllocError, Global};
 

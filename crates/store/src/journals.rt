@@ -7,8 +7,8 @@ ghost use Rattle.store.specs.Keeping.{Journals as Kept, journal_of};
 ghost use Rattle.store.specs.Snapshots.{Settling};
 ghost use Rattle.tables.specs.declared.table.Table.{Table};
 
-use crate::slot::Undo;
-use crate::slots::Slots;
+use crate::places::slot::Undo;
+use crate::places::slots::Slots;
 use indexmap::IndexMap;
 use pqformat::Items;
 use std::alloc::{AllocError, Global};
@@ -22,7 +22,7 @@ pub struct Journal {
 
 impl Model for Journal {
     ghost use Rattle.std.specs.Prelude.{List};
-    ghost use Rattle.store.specs.declared.slot.Undo.{Undo as Noted};
+    ghost use Rattle.store.specs.declared.places.slot.Undo.{Undo as Noted};
 
     ghost Value = { List (List Noted) };
 

@@ -9,7 +9,7 @@ ghost use Rattle.store.specs.Rows.{key_of, key_text};
 ghost use Rattle.store.specs.Slots.{same_key, slot_at};
 ghost use Rattle.tables.specs.Tables.{FitsRow, FitsChange, table_of};
 
-use crate::key::Place;
+use crate::places::key::Place;
 use crate::store::Store;
 use crate::store_fault::StoreFault;
 use tables::{Change, MAX_TRUNCATED, Row, repeats};

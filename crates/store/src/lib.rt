@@ -1,6 +1,6 @@
 //! The rows of tables in memory, each with who changed it, so that what a transaction did can be undone.
 //!
-//! `Store` holds the rows of each table by key (`slots.rt`, `key.rt`); `judging.rt` refuses a change whose row is held by
+//! `Store` holds the rows of each table by key (`places/slots.rt`, `places/key.rt`); `judging.rt` refuses a change whose row is held by
 //! another transaction, is missing, or is there already; `journals.rt` keep what was there before, for a rollback.
 //!
 //! Read `store.rt`, then `judging.rt`. Above, `txlog` uses one contract: the rows are those that the changes made and not undone
@@ -10,10 +10,8 @@
 mod emptying;
 mod journals;
 mod judging;
-mod key;
 mod message;
-mod slot;
-mod slots;
+mod places;
 mod snapshot;
 mod store;
 mod store_fault;

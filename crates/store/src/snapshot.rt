@@ -5,7 +5,7 @@ ghost use Rattle.store.specs.History.{Made};
 ghost use Rattle.store.specs.Keeping.{Keeps};
 ghost use Rattle.store.specs.Snapshots.{AreCommitted, AreOnce, Gives, standing_of, standing_within};
 
-use crate::slots::Slots;
+use crate::places::slots::Slots;
 use crate::store::Store;
 use std::alloc::{AllocError, Global};
 use std::marker::Model;

@@ -12,9 +12,9 @@ ghost use Rattle.tables.specs.Spelling.{IsShort};
 ghost use Rattle.tables.specs.Tables.{FitsRow, FitsChange};
 
 use crate::journals::Journals;
-use crate::key::{MAX_KEY_LENGTH, Place};
-use crate::slot::Undo;
-use crate::slots::Slots;
+use crate::places::key::{MAX_KEY_LENGTH, Place};
+use crate::places::slot::Undo;
+use crate::places::slots::Slots;
 use crate::store_fault::StoreFault;
 use catalog::Catalog;
 use pqformat::Items;

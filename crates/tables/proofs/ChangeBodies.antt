@@ -11,12 +11,12 @@ use Rattle.pqformat.specs.Fields.{byte_at, bytes_at, number_at, int16, int32}
 use Rattle.pqformat.specs.Steps.{◌>>=◌, repeat_at}
 use Rattle.pqformat.proofs.Codec.{IsBytes, IsBytes-rest, Takes, bind_ok, passed, Codec, field, last_field, codec_of, with_range, tested, counted, repeated, Chooses, no_choice, choice, choice_codec}
 use Rattle.pqformat.proofs.Numbers.{number16, number32, bytes_codec}
-use Rattle.tables.specs.declared.change_body.TheConstants.{INSERT_TAG, UPDATE_TAG, DELETE_TAG, TRUNCATE_TAG, MESSAGE_TAG}
+use Rattle.tables.specs.declared.changes.change_body.TheConstants.{INSERT_TAG, UPDATE_TAG, DELETE_TAG, TRUNCATE_TAG, MESSAGE_TAG}
 use Rattle.tables.specs.declared.fault.BodyFault.{BodyFault}
 use Rattle.tables.specs.declared.fault.BodyFault.TheVariants.{Short, BadText, UnknownTag, Trailing}
 use Rattle.tables.specs.declared.kinds.Value.{Value}
-use Rattle.tables.specs.declared.change.Change.{Change}
-use Rattle.tables.specs.declared.change.Change.TheVariants as changes
+use Rattle.tables.specs.declared.changes.change.Change.{Change}
+use Rattle.tables.specs.declared.changes.change.Change.TheVariants as changes
 use Rattle.tables.specs.Kinds.{spell_value, value_at}
 use Rattle.tables.specs.Spelling.{spell_row, spell_oids, spell_message, spell_body}
 use Rattle.tables.specs.Reading.{IsCodedRow, RowHasValue, InsertHasValue, Gives, IsCodedOids, IsCoded, SpellsBody, oid_at, oids_at, prefix_sized_at, prefix_at, message_at, IsCodedMessage, HoldsMessage, update_at, change_tagged, change_at, body_at, BeginsRow, is_row_tag, HoldsRow, HoldsOid, HoldsPart, SecondHasValue, OidsHaveOne, ChangeHasPart}

@@ -6,12 +6,12 @@ use Rattle.pqformat.specs.Fields.{int16, int32}
 use Rattle.pqformat.proofs.Numbers.{length-int16, length-int32}
 use Rattle.tables.specs.declared.kinds.Value.{Value}
 use Rattle.tables.specs.declared.table.Table.{Table}
-use Rattle.tables.specs.declared.change.Change.{Change}
-use Rattle.tables.specs.declared.change.Change.TheVariants as changes
-use Rattle.tables.specs.declared.change_body.TheConstants.{MAX_BODY_LENGTH}
-use Rattle.tables.specs.declared.row.TheConstants.{MAX_ROW_LENGTH}
-use Rattle.tables.specs.declared.message.TheConstants.{MAX_PREFIX_LENGTH}
-use Rattle.tables.specs.declared.message.Message.{Message}
+use Rattle.tables.specs.declared.changes.change.Change.{Change}
+use Rattle.tables.specs.declared.changes.change.Change.TheVariants as changes
+use Rattle.tables.specs.declared.changes.change_body.TheConstants.{MAX_BODY_LENGTH}
+use Rattle.tables.specs.declared.rows.row.TheConstants.{MAX_ROW_LENGTH}
+use Rattle.tables.specs.declared.changes.message.TheConstants.{MAX_PREFIX_LENGTH}
+use Rattle.tables.specs.declared.changes.message.Message.{Message}
 use Rattle.std.proofs.lemmas.Bool.{leb-true}
 use Rattle.tables.specs.Kinds.{IsCodedValue, IsValue, has_no_zero, spell_value}
 use Rattle.tables.specs.Reading.{IsCodedRow, IsCodedMessage, IsCoded}

@@ -12,7 +12,7 @@ use Rattle.tables.proofs.RowBodies.{row_codec}
 use Rattle.tables.specs.declared.fault.BodyFault.{BodyFault}
 use Rattle.tables.specs.declared.kinds.Value.{Value}
 use Rattle.tables.specs.declared.kinds.ValueRef.{ValueRef}
-use Rattle.tables.specs.declared.row.TheConstants.{MAX_ROW_LENGTH}
+use Rattle.tables.specs.declared.rows.row.TheConstants.{MAX_ROW_LENGTH}
 use Rattle.tables.specs.Refs.{IsLarge}
 
 -- one value more

@@ -10,7 +10,7 @@ use Rattle.pqformat.specs.Fields.{byte_at, bytes_at, int32}
 use Rattle.pqformat.specs.Steps.{◌>>=◌, letter_at}
 use Rattle.pqformat.proofs.Codec.{Codec, with_range, tested, counted, Chooses, no_choice, choice, choice_codec}
 use Rattle.pqformat.proofs.Numbers.{number_codec, length-int16, length-int32, length-int64, number32, bytes_codec, nothing_codec, letter_codec, signed16, signed32, signed64}
-use Rattle.tables.specs.declared.row.TheConstants.{MAX_ROW_LENGTH}
+use Rattle.tables.specs.declared.rows.row.TheConstants.{MAX_ROW_LENGTH}
 use Rattle.tables.specs.declared.kinds.TheConstants.{NULL_TAG, BOOL_TAG, INT2_TAG, INT4_TAG, INT8_TAG, TEXT_TAG, UUID_TAG}
 use Rattle.tables.specs.declared.fault.BodyFault.TheVariants.{Short, UnknownTag, BadBool, BadText}
 use Rattle.tables.specs.declared.kinds.Value.{Value}

@@ -5,13 +5,13 @@ use Rattle.std.specs.Int.{w16, w32}
 use Rattle.std.specs.Str.{is_utf8}
 use Rattle.pqformat.specs.Fields.{byte_at, bytes_at, number_at, int16, int32}
 use Rattle.pqformat.specs.Steps.{◌>>=◌, repeat_at}
-use Rattle.tables.specs.declared.change_body.TheConstants.{INSERT_TAG, UPDATE_TAG, DELETE_TAG, TRUNCATE_TAG, MESSAGE_TAG}
+use Rattle.tables.specs.declared.changes.change_body.TheConstants.{INSERT_TAG, UPDATE_TAG, DELETE_TAG, TRUNCATE_TAG, MESSAGE_TAG}
 use Rattle.tables.specs.declared.fault.BodyFault.{BodyFault}
 use Rattle.tables.specs.declared.fault.BodyFault.TheVariants.{UnknownTag, BadText, Trailing, Memory}
 use Rattle.tables.specs.declared.kinds.Value.{Value}
-use Rattle.tables.specs.declared.change.Change.{Change}
-use Rattle.tables.specs.declared.change.Change.TheVariants as changes
-use Rattle.tables.specs.declared.message.Message.{Message}
+use Rattle.tables.specs.declared.changes.change.Change.{Change}
+use Rattle.tables.specs.declared.changes.change.Change.TheVariants as changes
+use Rattle.tables.specs.declared.changes.message.Message.{Message}
 use Rattle.tables.specs.Kinds.{IsCodedValue, short, sized_at, spell_value, value_at}
 use Rattle.tables.specs.Spelling.{spell_message, spell_body}
 

@@ -2,9 +2,9 @@
 use Rattle.std.specs.Prelude.{◌⊎◌, ◌<◌, List, length}
 use Rattle.tables.specs.declared.kinds.Value.{Value}
 use Rattle.tables.specs.declared.table.TheConstants.{MAX_COLUMNS}
-use Rattle.tables.specs.declared.row.TheConstants.{MAX_ROW_LENGTH}
-use Rattle.tables.specs.declared.message.Message.{Message}
-use Rattle.tables.specs.declared.message.MessageRef.{MessageRef}
+use Rattle.tables.specs.declared.rows.row.TheConstants.{MAX_ROW_LENGTH}
+use Rattle.tables.specs.declared.changes.message.Message.{Message}
+use Rattle.tables.specs.declared.changes.message.MessageRef.{MessageRef}
 use Rattle.tables.specs.Spelling.{row_length}
 
 abbrev pub message_of : MessageRef → Message

@@ -4,13 +4,13 @@
 use Rattle.std.specs.Prelude.{ℕ, ◌≤◌, List, ◌∷◌, ◌++◌, length}
 use Rattle.std.specs.List.{flat_map}
 use Rattle.pqformat.specs.Fields.{int16, int32}
-use Rattle.tables.specs.declared.change_body.TheConstants.{INSERT_TAG, UPDATE_TAG, DELETE_TAG, TRUNCATE_TAG, MESSAGE_TAG, MAX_TRUNCATED}
-use Rattle.tables.specs.declared.message.TheConstants.{MAX_PREFIX_LENGTH, MAX_CONTENT_LENGTH}
-use Rattle.tables.specs.declared.message.Message.{Message}
-use Rattle.tables.specs.declared.row.TheConstants.{MAX_ROW_LENGTH}
+use Rattle.tables.specs.declared.changes.change_body.TheConstants.{INSERT_TAG, UPDATE_TAG, DELETE_TAG, TRUNCATE_TAG, MESSAGE_TAG, MAX_TRUNCATED}
+use Rattle.tables.specs.declared.changes.message.TheConstants.{MAX_PREFIX_LENGTH, MAX_CONTENT_LENGTH}
+use Rattle.tables.specs.declared.changes.message.Message.{Message}
+use Rattle.tables.specs.declared.rows.row.TheConstants.{MAX_ROW_LENGTH}
 use Rattle.tables.specs.declared.kinds.Value.{Value}
-use Rattle.tables.specs.declared.change.Change.{Change}
-use Rattle.tables.specs.declared.change.Change.TheVariants as changes
+use Rattle.tables.specs.declared.changes.change.Change.{Change}
+use Rattle.tables.specs.declared.changes.change.Change.TheVariants as changes
 use Rattle.tables.specs.Kinds.{spell_value}
 
 abbrev pub spell_row : List Value → List ℕ

@@ -6,12 +6,12 @@ ghost use Rattle.pqformat.specs.Putting.{Puts};
 ghost use Rattle.pqformat.specs.Steps.{letter_at, signed_at};
 ghost use Rattle.pqformat.specs.Writing.{FitsRoom, Writes};
 ghost use Rattle.tables.specs.declared.fault.BodyFault.TheVariants.{Short, BadBool, Memory};
-ghost use Rattle.tables.specs.declared.row.TheConstants.{MAX_ROW_LENGTH};
+ghost use Rattle.tables.specs.declared.rows.row.TheConstants.{MAX_ROW_LENGTH};
 ghost use Rattle.tables.specs.Kinds.{IsValue, bool_of, has_no_zero, identifies, is_of_kind, is_sent, kind_named, spell_value, text_at, uuid_at, uuid_bytes, value_at, value_of};
 ghost use Rattle.tables.specs.Reading.{Gives};
 
 use crate::fault::BodyFault;
-use crate::uuids::halves_of_uuid;
+use crate::rows::uuids::halves_of_uuid;
 use bytes::{BufMut, BytesMut};
 use data_types::DataType;
 use pqformat::{

@@ -8,8 +8,8 @@ ghost use Rattle.tables.specs.Tables.{fits_column, fits_key, fits_table, full_na
 use crate::column::Column;
 use crate::identity::Identity;
 use crate::kinds::Value;
-use crate::row::Row;
-use crate::row_ref::RowRef;
+use crate::rows::row::Row;
+use crate::rows::row_ref::RowRef;
 use pqformat::{Items, Text};
 use std::alloc::{AllocError, Global};
 

@@ -1,8 +1,8 @@
 //! A sender drained byte by byte.
 
-use crate::log_fixture::{CHUNKS, commit_under_lock, sender_of_p};
+use crate::fixtures::log_fixture::{CHUNKS, commit_under_lock, sender_of_p};
+use crate::fixtures::work::{Work, do_work};
 use crate::turn_calls::{FIRST_BLOCK, LENGTH};
-use crate::work::{Work, do_work};
 use shared_log::{LogName, LogReader};
 use std::alloc::{AllocError, Global};
 use std::process::Abort;

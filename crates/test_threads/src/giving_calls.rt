@@ -1,7 +1,7 @@
 //! A log that has more records than may lie in memory at once, since they are given back.
 
-use crate::log_fixture::commit_under_lock;
-use crate::work::{Work, do_work};
+use crate::fixtures::log_fixture::commit_under_lock;
+use crate::fixtures::work::{Work, do_work};
 use shared_log::{LogName, LogReader, ReadFault};
 use std::alloc::Global;
 use std::process::Abort;

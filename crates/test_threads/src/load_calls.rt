@@ -1,8 +1,8 @@
 //! Sessions and a reader of one log, side by side.
 
-use crate::log_fixture::{commit_under_lock, has_commit_of, log_of};
-use crate::log_reading::{fetch_more, fetch_rest};
-use crate::work::{Work, do_work};
+use crate::fixtures::log_fixture::{commit_under_lock, has_commit_of, log_of};
+use crate::fixtures::log_reading::{fetch_more, fetch_rest};
+use crate::fixtures::work::{Work, do_work};
 use shared_log::{LogName, LogReader, ReadFault};
 use std::alloc::Global;
 use std::process::Abort;

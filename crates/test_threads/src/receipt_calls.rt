@@ -1,7 +1,7 @@
 //! A receipt that is learnt of on another thread than the one that committed.
 
-use crate::log_fixture::{commit_elsewhere, has_commit_of};
-use crate::work::{Work, do_work};
+use crate::fixtures::log_fixture::{commit_elsewhere, has_commit_of};
+use crate::fixtures::work::{Work, do_work};
 use shared_log::{LogName, LogReader, ReadFault};
 use std::alloc::Global;
 use std::process::Abort;

@@ -1,7 +1,7 @@
 //! A snapshot that is opened while a transaction is in progress, and read while others change what it has read and what not.
 
-use crate::log_fixture::{ITEM, commit_one, item};
-use crate::work::{Work, do_work};
+use crate::fixtures::log_fixture::{ITEM, commit_one, item};
+use crate::fixtures::work::{Work, do_work};
 use shared_log::LogName;
 use std::alloc::{AllocError, Global};
 use std::process::Abort;

@@ -2,8 +2,8 @@
 
 ghost use Rattle.std.specs.Prelude.{Some};
 
-use crate::log_fixture::{TIME, commit_elsewhere, commit_under_lock, sender_of_p};
-use crate::work::{Work, do_work};
+use crate::fixtures::log_fixture::{TIME, commit_elsewhere, commit_under_lock, sender_of_p};
+use crate::fixtures::work::{Work, do_work};
 use shared_log::{LogName, LogReader};
 use std::alloc::{AllocError, Global};
 use std::io;

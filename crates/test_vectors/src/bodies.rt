@@ -4,7 +4,7 @@ ghost use Rattle.std.specs.Prelude.{◌≡◌, true, IfOk};
 ghost use Rattle.pgoutput.specs.Logical.{FitsLogical, IsShort};
 ghost use Rattle.tables.specs.Spelling.{IsShort as IsShortBody};
 
-use crate::answer::{tell, tell_written};
+use crate::wording::answer::{tell, tell_written};
 use anyhow::{Result, ensure};
 use bytes::BytesMut;
 use copyboth::{

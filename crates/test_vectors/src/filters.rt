@@ -1,6 +1,6 @@
 //! Row filters: what each is of some rows, or why it is none.
 
-use crate::answer::{add_value, bytes_of};
+use crate::wording::answer::{add_value, bytes_of};
 use anyhow::{Context, Result, bail};
 use catalog::Catalog;
 use rowfilter::{Filter, FilterFault, fault_at, parse};

@@ -5,7 +5,7 @@ ghost use Rattle.frames.specs.Frame.{FitsLength};
 ghost use Rattle.frames.specs.Front.{front_body};
 ghost use Rattle.frames.specs.Back.{back_body, HasCounts};
 
-use crate::answer::{tell, tell_written};
+use crate::wording::answer::{tell, tell_written};
 use anyhow::Result;
 use bytes::BytesMut;
 use frames::{

@@ -6,26 +6,20 @@
 //! value isn't written as it was read, or there is no such call.
 #![tactic(auto)]
 
-mod answer;
 mod bodies;
-mod calls;
-mod fault_texts;
-mod fields;
 mod filters;
 mod framing;
 mod passwords;
 mod publishing;
-mod scripted_backend;
-mod subscriber;
-mod talk;
-mod texts;
+mod talking;
 mod uses;
+mod wording;
 
 use anyhow::Result;
-use calls::answer_call;
 use std::alloc::Global;
 use std::io::{Input, Print};
 use std::{env, io};
+use talking::calls::answer_call;
 use uses::use_one;
 
 /// The word between two uses.

@@ -1,6 +1,6 @@
 //! Passwords: codes, keys, verifiers, and whole exchanges.
 
-use crate::answer::{bytes_of, tell_fault};
+use crate::wording::answer::{bytes_of, tell_fault};
 use anyhow::{Result, bail};
 use pqformat::Items;
 use scram::{

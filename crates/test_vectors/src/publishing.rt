@@ -1,6 +1,6 @@
 //! Publications: what they make of changes, and why some are none.
 
-use crate::answer::{add_value, bytes_of, tell_fault};
+use crate::wording::answer::{add_value, bytes_of, tell_fault};
 use anyhow::{Context, Result, bail};
 use catalog::{Catalog, read_document};
 use pgoutput::read_logical;

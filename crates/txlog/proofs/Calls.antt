@@ -4,14 +4,14 @@ use Rattle.std.specs.Prelude.{FitsSigned, slice_index, unwrap_or}
 use Rattle.std.specs.List.{AllByRecursion, slice_get}
 use Rattle.std.specs.Int.{w64}
 use Rattle.tables.specs.declared.table.Table.{Table}
-use Rattle.tables.specs.declared.change.Change.{Change}
-use Rattle.tables.specs.declared.change.Change.TheVariants as changes
+use Rattle.tables.specs.declared.changes.change.Change.{Change}
+use Rattle.tables.specs.declared.changes.change.Change.TheVariants as changes
 use Rattle.tables.specs.Spelling.{IsShort}
 use Rattle.tables.specs.Tables.{FitsChange}
 use Rattle.store.specs.History.{change_made, count_of, history_after_rollback, history_after_end}
 use Rattle.store.specs.Keeping.{StoreState, Keeps}
 use Rattle.tables.proofs.Lengths.{insert_length, delete_length, two_rows_length, truncate_length, message_length}
-use Rattle.txlog.specs.declared.savepoint.Savepoint.{Savepoint}
+use Rattle.txlog.specs.declared.transactions.savepoint.Savepoint.{Savepoint}
 use Rattle.txlog.specs.declared.limits.TheConstants.{MAX_DEPTH, MAX_LIVE, MAX_RECORDS, MOST_RECORDS}
 use Rattle.wal.specs.declared.record.TheConstants.{FIRST_POSITION}
 use Rattle.wal.specs.declared.record.Record.{Record}

@@ -4,8 +4,8 @@ use Rattle.std.specs.Prelude.{IfErr, OnErr, OnOk}
 use Rattle.std.proofs.lemmas.Bool.{ne_eqb}
 use Rattle.tables.specs.declared.kinds.Value.{Value}
 use Rattle.tables.specs.declared.table.Table.{Table}
-use Rattle.tables.specs.declared.change.Change.{Change}
-use Rattle.tables.specs.declared.change.Change.TheVariants as changes
+use Rattle.tables.specs.declared.changes.change.Change.{Change}
+use Rattle.tables.specs.declared.changes.change.Change.TheVariants as changes
 use Rattle.store.specs.declared.store_fault.StoreFault.{StoreFault}
 use Rattle.store.specs.declared.store_fault.StoreFault.TheVariants as store_faults
 use Rattle.tables.specs.Spelling.{IsShort}
@@ -14,8 +14,8 @@ use Rattle.store.specs.History.{Made, change_made, count_of, history_after_rollb
 use Rattle.store.specs.Keeping as tables
 use Rattle.store.specs.Keeping.{StoreState, Keeps}
 use Rattle.txlog.specs.declared.changing.Changing.{Changing}
-use Rattle.txlog.specs.declared.fault.SessionFault.{SessionFault}
-use Rattle.txlog.specs.declared.fault.SessionFault.TheVariants as faults
+use Rattle.txlog.specs.declared.answers.fault.SessionFault.{SessionFault}
+use Rattle.txlog.specs.declared.answers.fault.SessionFault.TheVariants as faults
 use Rattle.wal.specs.declared.record.Record.{Record}
 use Rattle.wal.specs.declared.record.Body.TheVariants.{Change as Changed}
 use Rattle.txlog.specs.Rows.{history_of}

@@ -5,7 +5,7 @@ use Rattle.std.proofs.lemmas.Iterator.Adapters.{position_from-zero}
 use Rattle.std.proofs.lemmas.List.Quantifiers.{position-Some}
 use Rattle.std.proofs.Math.Seq.{take-append_seam}
 use Rattle.std.proofs.lemmas.Bool.{eqb-true, ne_eqb}
-use Rattle.txlog.specs.declared.savepoint.Savepoint.{Savepoint}
+use Rattle.txlog.specs.declared.transactions.savepoint.Savepoint.{Savepoint}
 use Rattle.wal.specs.Log.{last_of}
 use Rattle.wal.proofs.Lists.{all_append}
 use Rattle.txlog.specs.Publishing.{LiveTransaction, xids, is_live, savepoints_of, with_savepoints, without}

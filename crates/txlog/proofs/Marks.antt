@@ -1,7 +1,7 @@
 -- Lists parted by a mark: pushed to, filtered, and rolled back to it.
 use Rattle.std.proofs.Common.{◌≡◌, ℕ, zero, suc, Bool, true, false, cond, not, List, [], ◌∷◌, ◌++◌, map, refl, sym, ap, subst, ◌∙◌, eq-eqb}
 use Rattle.std.specs.List.{filter, AllByRecursion}
-use Rattle.tables.specs.declared.change.Change.{Change}
+use Rattle.tables.specs.declared.changes.change.Change.{Change}
 use Rattle.store.specs.History.{Made, change_made, is_top, history_after_rollback, count_of}
 use Rattle.wal.specs.Log.{Entry}
 use Rattle.txlog.specs.Invariants.{IsBehind}

@@ -1,7 +1,7 @@
 -- A message changes no row.
 use Rattle.std.proofs.Common.{◌≡◌, ℕ, ◌+◌, true, List, [], ◌∷◌, ◌++◌, refl, ap, ◌∙◌}
 use Rattle.tables.specs.declared.table.Table.{Table}
-use Rattle.tables.specs.declared.change.Change.{Change}
+use Rattle.tables.specs.declared.changes.change.Change.{Change}
 use Rattle.store.specs.Rows.{Rows, no_rows}
 use Rattle.store.specs.History.{Made, change_made, rows_after, rows_from, rows_with}
 use Rattle.wal.specs.declared.record.TheConstants.{FIRST_POSITION}

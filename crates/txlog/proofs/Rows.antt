@@ -3,8 +3,8 @@ use Rattle.std.proofs.Common.{◌≡◌, ℕ, pos, true, false, List, [], ◌∷
 use Rattle.std.specs.Prelude.{codes}
 use Rattle.pqformat.specs.Fields.{int16, int32, int64}
 use Rattle.tables.specs.declared.kinds.Value.TheVariants as values
-use Rattle.tables.specs.declared.change.Change.{Change}
-use Rattle.tables.specs.declared.change.Change.TheVariants as changes
+use Rattle.tables.specs.declared.changes.change.Change.{Change}
+use Rattle.tables.specs.declared.changes.change.Change.TheVariants as changes
 use Rattle.store.specs.Rows.{Key}
 use Rattle.tables.specs.Tables.{item_tables}
 use Rattle.wal.specs.declared.record.Record.{Record}

@@ -7,8 +7,8 @@ use Rattle.std.proofs.lemmas.List.Quantifiers.{position-Some}
 use Rattle.store.specs.Keeping.{StoreState}
 use Rattle.tables.specs.declared.kinds.Value.{Value}
 use Rattle.store.specs.Snapshots.{Gives, SnapshotState, standing_within}
-use Rattle.txlog.specs.declared.snapshot_fault.SnapshotFault.{SnapshotFault}
-use Rattle.txlog.specs.declared.snapshot_fault.SnapshotFault.TheVariants as faults
+use Rattle.txlog.specs.declared.answers.snapshot_fault.SnapshotFault.{SnapshotFault}
+use Rattle.txlog.specs.declared.answers.snapshot_fault.SnapshotFault.TheVariants as faults
 use Rattle.txlog.specs.declared.snapshots.OpenSnapshot.{OpenSnapshot}
 use Rattle.txlog.specs.Snapshots.{IsRefusedBy, Reads, Scans, Snapshots, snapshot_of, with_snapshot}
 use Rattle.txlog.specs.Publishing.{PublisherState, with_snapshots}

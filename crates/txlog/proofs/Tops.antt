@@ -1,14 +1,14 @@
 -- The transaction of each record that a call writes.
 use Rattle.std.proofs.Common.{◌≡◌, ◌<◌, ◌≤◌, ◌-◌, ℕ, true, false, cond, List, [], ◌∷◌, ◌++◌, length, reverse, Some, refl, ap, sym, subst, ◌∙◌, arith, eq-eqb}
 use Rattle.std.specs.Prelude.{slice_get, slice_index}
-use Rattle.tables.specs.declared.change.Change.{Change}
+use Rattle.tables.specs.declared.changes.change.Change.{Change}
 use Rattle.wal.specs.declared.record.Record.{Record}
 use Rattle.wal.specs.declared.record.Body.TheVariants.{Assign, Change as Changed, AbortSub}
 use Rattle.wal.specs.Log.{assigns, chain, last_of, top_of}
 use Rattle.wal.specs.Records.{record_after}
 use Rattle.wal.proofs.Laws.{chain-append, chain-quiet, chain-unassigned}
 use Rattle.wal.proofs.Sections.{ends_in}
-use Rattle.txlog.specs.declared.savepoint.Savepoint.{Savepoint}
+use Rattle.txlog.specs.declared.transactions.savepoint.Savepoint.{Savepoint}
 use Rattle.txlog.specs.Publishing.{PublisherState, xids, is_live, savepoints_of, innermost}
 use Rattle.txlog.specs.Invariants.{IsPublisher}
 use Rattle.txlog.specs.declared.changing.Changing.{Changing}

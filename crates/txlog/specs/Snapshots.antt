@@ -5,8 +5,8 @@ use Rattle.tables.specs.declared.table.Table.{Table}
 use Rattle.store.specs.History.{Made}
 use Rattle.store.specs.Snapshots.{AreCommitted, Gives, SnapshotState, Standing, standing_within}
 use Rattle.txlog.specs.declared.snapshots.OpenSnapshot.{OpenSnapshot}
-use Rattle.txlog.specs.declared.snapshot_fault.SnapshotFault.{SnapshotFault}
-use Rattle.txlog.specs.declared.snapshot_fault.SnapshotFault.TheVariants as faults
+use Rattle.txlog.specs.declared.answers.snapshot_fault.SnapshotFault.{SnapshotFault}
+use Rattle.txlog.specs.declared.answers.snapshot_fault.SnapshotFault.TheVariants as faults
 
 -- how many have been opened so far, and those that are open, each under its number
 pub record Snapshots : Type 0 where

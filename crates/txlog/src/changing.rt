@@ -12,9 +12,9 @@ ghost use Rattle.txlog.specs.Publishing.{RefusedOrMemory, after_change, after_de
 ghost use Rattle.txlog.specs.Rows.{history_of};
 ghost use Rattle.wal.specs.declared.record.TheConstants.{FIRST_POSITION};
 
-use crate::fault::SessionFault;
+use crate::answers::fault::SessionFault;
 use crate::publisher::Publisher;
-use crate::tx::Tx;
+use crate::transactions::tx::Tx;
 use shared_log::{LogName, LogWriter};
 use std::alloc::{AllocError, Global};
 use std::sync::Wait;

@@ -2,35 +2,29 @@
 //! they write.
 //!
 //! Begin, change, savepoint, rollback, commit, abort and message are calls of `Publisher`, each in the file of its name
-//! (`changing.rt`, `savepoint.rt`, `noting.rt`, `running.rt`). `Receipt` tells where a commit stands.
+//! (`changing.rt`, `transactions/savepoint.rt`, `noting.rt`, `transactions/running.rt`). `Receipt` tells where a commit stands.
 //!
-//! Read `publisher.rt`, `changing.rt`, `tx.rt`. Above, one contract is used: between any two calls the log is well formed and
+//! Read `publisher.rt`, `changing.rt`, `transactions/tx.rt`. Above, one contract is used: between any two calls the log is well formed and
 //! the rows are its own, and a call writes exactly its record or changes nothing.
 #![tactic(auto)]
 
+mod answers;
 mod changing;
-mod fault;
 mod giving;
 mod limits;
-mod live;
 mod noting;
 mod opened;
 mod publisher;
-mod receipt;
-mod rowless;
-mod running;
-mod savepoint;
-mod snapshot_fault;
 mod snapshots;
-mod tx;
+mod transactions;
 
-pub use fault::SessionFault;
+pub use answers::fault::SessionFault;
+pub use answers::receipt::Receipt;
+pub use answers::snapshot_fault::SnapshotFault;
 pub use giving::kept_place;
 pub use limits::{MAX_DEPTH, MAX_LIVE, MAX_READERS, MAX_RECORDS, MOST_RECORDS};
 pub use opened::Opened;
 pub use publisher::Publisher;
-pub use receipt::Receipt;
-pub use rowless::a_message_changes_no_row;
-pub use snapshot_fault::SnapshotFault;
 pub use snapshots::Piece;
-pub use tx::Tx;
+pub use transactions::rowless::a_message_changes_no_row;
+pub use transactions::tx::Tx;

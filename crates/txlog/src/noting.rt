@@ -9,8 +9,8 @@ ghost use Rattle.wal.specs.Records.{record_after};
 ghost use Rattle.wal.specs.declared.record.TheConstants.{FIRST_POSITION};
 ghost use Rattle.wal.specs.declared.record.Body.TheVariants.{Note};
 
+use crate::answers::fault::SessionFault;
 use crate::changing::refusal;
-use crate::fault::SessionFault;
 use crate::publisher::Publisher;
 use shared_log::{LogName, LogWriter};
 use std::alloc::{AllocError, Global};

@@ -4,7 +4,7 @@ ghost use Rattle.std.specs.Prelude.{◌≡◌, ◌≤◌, ◌<◌, IfOk};
 ghost use Rattle.txlog.specs.Publishing.{RefusedExactly, new_refusal};
 ghost use Rattle.txlog.specs.declared.limits.TheConstants.{MAX_READERS, MAX_RECORDS};
 
-use crate::fault::SessionFault;
+use crate::answers::fault::SessionFault;
 use crate::limits::{MAX_READERS, MAX_RECORDS};
 use catalog::Catalog;
 use std::alloc::Global;

@@ -6,8 +6,8 @@ ghost use Rattle.txlog.specs.Publishing.{with_snapshots};
 ghost use Rattle.txlog.specs.Rows.{history_of};
 ghost use Rattle.txlog.specs.Snapshots.{IsRefusedBy, Opens, Reads, Scans, no_snapshots, snapshot_of, with_opened, without_snapshot};
 
+use crate::answers::snapshot_fault::SnapshotFault;
 use crate::publisher::Publisher;
-use crate::snapshot_fault::SnapshotFault;
 use shared_log::LogName;
 use std::alloc::{AllocError, Global};
 use std::marker::Model;

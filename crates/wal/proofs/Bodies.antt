@@ -1,6 +1,6 @@
 -- A change is read again from the body that a record keeps of it.
 use Rattle.std.proofs.Common.{◌≡◌, ℕ, List, ap}
-use Rattle.tables.specs.declared.change.Change.{Change}
+use Rattle.tables.specs.declared.changes.change.Change.{Change}
 use Rattle.tables.specs.Spelling.{spell_body}
 use Rattle.tables.specs.Reading.{IsCoded}
 use Rattle.tables.proofs.ChangeBodies.{body_again}

@@ -1,8 +1,8 @@
 -- The change that a record's bytes are the body of.
 use Rattle.std.specs.Prelude.{ℕ, List, [], Result, Ok, Err}
 use Rattle.tables.specs.declared.fault.BodyFault.{BodyFault}
-use Rattle.tables.specs.declared.change.Change.{Change}
-use Rattle.tables.specs.declared.change.Change.TheVariants as changes
+use Rattle.tables.specs.declared.changes.change.Change.{Change}
+use Rattle.tables.specs.declared.changes.change.Change.TheVariants as changes
 use Rattle.tables.specs.Reading.{body_at}
 
 abbrev pub change_of : Result (Change × List ℕ) BodyFault → Change

@@ -1,7 +1,7 @@
 //! A change as a record holds it.
 
 ghost use Rattle.std.specs.Prelude.{◌≡◌, ◌≤◌, IfOk};
-ghost use Rattle.tables.specs.declared.change_body.TheConstants.{MAX_BODY_LENGTH};
+ghost use Rattle.tables.specs.declared.changes.change_body.TheConstants.{MAX_BODY_LENGTH};
 ghost use Rattle.tables.specs.Reading.{IsCoded, SpellsBody};
 ghost use Rattle.tables.specs.Spelling.{IsShort, body_length};
 
@@ -18,7 +18,7 @@ pub struct LoggedChange {
 }
 
 impl Model for LoggedChange {
-    ghost use Rattle.tables.specs.declared.change.Change.{Change as Held};
+    ghost use Rattle.tables.specs.declared.changes.change.Change.{Change as Held};
     ghost use Rattle.tables.specs.Reading.{SpellsBody};
     ghost use Rattle.tables.specs.Spelling.{IsShort};
     ghost use Rattle.wal.specs.Bodies.{change_in};

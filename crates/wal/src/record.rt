@@ -1,7 +1,7 @@
 //! The records of the log.
 
 ghost use Rattle.std.specs.Prelude.{◌≡◌, ◌+◌, ◌≤◌, ◌^◌};
-ghost use Rattle.tables.specs.declared.change_body.TheConstants.{MAX_BODY_LENGTH};
+ghost use Rattle.tables.specs.declared.changes.change_body.TheConstants.{MAX_BODY_LENGTH};
 ghost use Rattle.wal.specs.Log.{payload_length, size_of};
 
 use crate::logged::LoggedChange;

@@ -14,13 +14,13 @@ use Rattle.publication.specs.Publications.{PublicationSet}
 use Rattle.wal.specs.declared.record.Record.{Record}
 use Rattle.wal.specs.declared.record.Body.{Body}
 use Rattle.wal.specs.declared.record.Body.TheVariants.{Assign, Change as Changed, AbortSub, Abort, Commit, Note}
-use Rattle.tables.specs.declared.change.Change.{Change}
+use Rattle.tables.specs.declared.changes.change.Change.{Change}
 use Rattle.wal.specs.Log.{note_as_transaction, committed_at, committed_from, end_of}
 use Rattle.wal.proofs.Laws.{end_of-append, committed_from-append}
 use Rattle.reorder.specs.Chunks.{LeavesNoRoom}
 use Rattle.reorder.specs.Taking.{HasTaken, MayCome, promised_changes}
 use Rattle.publication.specs.Selection.{relation}
-use Rattle.pgoutput.specs.declared.relation.Relation.{Relation}
+use Rattle.pgoutput.specs.declared.messages.relation.Relation.{Relation}
 use Rattle.pgoutput.specs.declared.published.Published.{Published}
 use Rattle.pgoutput.specs.Words.{word_bytes, frames_of}
 use Rattle.pgoutput.specs.Items.{Block, FitsPublished, words_of, item_words, bytes_of_items, relations_sent_by_all, relations_sent_through}

@@ -16,7 +16,7 @@ use Rattle.copyboth.specs.XLogData.{xlogdata}
 use Rattle.copyboth.specs.declared.xlogdata.TheConstants.{XLOGDATA}
 use Rattle.pgoutput.specs.declared.logical.Logical.{Logical}
 use Rattle.pgoutput.specs.declared.logical.Logical.TheVariants as logical
-use Rattle.pgoutput.specs.declared.relation.Relation.{Relation}
+use Rattle.pgoutput.specs.declared.messages.relation.Relation.{Relation}
 use Rattle.pgoutput.specs.Logical.{spell_logical}
 use Rattle.publication.specs.Publications.{PublicationSet}
 use Rattle.publication.specs.Selection.{relation}

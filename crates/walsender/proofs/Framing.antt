@@ -12,7 +12,7 @@ use Rattle.copyboth.specs.XLogData.{xlogdata}
 use Rattle.copyboth.specs.Keepalive.{keepalive, ask_byte}
 use Rattle.pgoutput.specs.declared.logical.Logical.{Logical}
 use Rattle.pgoutput.specs.Logical.{spell_logical}
-use Rattle.pgoutput.specs.declared.relation.Relation.{Relation}
+use Rattle.pgoutput.specs.declared.messages.relation.Relation.{Relation}
 use Rattle.pgoutput.specs.declared.word.Word.{Word}
 use Rattle.pgoutput.specs.declared.published.Published.{Published}
 use Rattle.pgoutput.specs.Words.{word_bytes, frames_of}

@@ -6,7 +6,7 @@ use Rattle.std.proofs.lemmas.Grind.{flat_map-append}
 use Rattle.std.proofs.lemmas.List.Sums.{sum_by-cons}
 use Rattle.chgarena.specs.Strands.{Strands as Arena}
 use Rattle.publication.specs.Publications.{PublicationSet}
-use Rattle.tables.specs.declared.change.Change.{Change}
+use Rattle.tables.specs.declared.changes.change.Change.{Change}
 use Rattle.wal.specs.declared.record.Record.{Record}
 use Rattle.wal.specs.declared.record.Body.{Body}
 use Rattle.wal.specs.declared.record.Body.TheVariants.{Assign, Change as Changed, AbortSub, Abort, Commit, Note}

@@ -6,7 +6,7 @@ use Rattle.pgoutput.specs.Logical.{spell_logical}
 use Rattle.frames.specs.Frame.{frame}
 use Rattle.frames.specs.declared.copy_data.TheConstants.{COPY_DATA}
 use Rattle.copyboth.specs.XLogData.{xlogdata}
-use Rattle.tables.specs.declared.change.Change.{Change}
+use Rattle.tables.specs.declared.changes.change.Change.{Change}
 use Rattle.publication.specs.Publications.{PublicationSet}
 use Rattle.publication.specs.Logged.{IsNoteAt, note_message}
 use Rattle.publication.specs.Selection.{relation}

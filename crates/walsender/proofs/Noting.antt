@@ -4,7 +4,7 @@ use Rattle.std.specs.Prelude.{pos, true, OnErr, OnOk}
 use Rattle.std.specs.List.{AllByRecursion}
 use Rattle.pgoutput.specs.declared.logical.Logical.{Logical}
 use Rattle.pgoutput.specs.Logical.{FitsLogical}
-use Rattle.tables.specs.declared.change.Change.{Change}
+use Rattle.tables.specs.declared.changes.change.Change.{Change}
 use Rattle.publication.specs.Publications.{PublicationSet}
 use Rattle.publication.specs.Logged.{IsNoteAt, note_message}
 use Rattle.publication.specs.Selection.{relation}

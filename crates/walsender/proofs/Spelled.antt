@@ -11,17 +11,17 @@ use Rattle.pqformat.proofs.Codec.{found_some, not_missing}
 use Rattle.pqformat.proofs.Numbers.{length-int32, length-int64, number32}
 use Rattle.pgoutput.specs.declared.logical.Logical.{Logical}
 use Rattle.pgoutput.specs.declared.logical.Logical.TheVariants as logical
-use Rattle.pgoutput.specs.declared.relation.Relation.{Relation}
-use Rattle.pgoutput.specs.declared.insert.TheConstants.{INSERT, NEW}
-use Rattle.pgoutput.specs.declared.update.TheConstants.{UPDATE}
-use Rattle.pgoutput.specs.declared.delete.TheConstants.{DELETE}
-use Rattle.pgoutput.specs.declared.truncate.TheConstants.{TRUNCATE}
-use Rattle.pgoutput.specs.declared.message.TheConstants.{MESSAGE}
+use Rattle.pgoutput.specs.declared.messages.relation.Relation.{Relation}
+use Rattle.pgoutput.specs.declared.messages.insert.TheConstants.{INSERT, NEW}
+use Rattle.pgoutput.specs.declared.messages.update.TheConstants.{UPDATE}
+use Rattle.pgoutput.specs.declared.messages.delete.TheConstants.{DELETE}
+use Rattle.pgoutput.specs.declared.messages.truncate.TheConstants.{TRUNCATE}
+use Rattle.pgoutput.specs.declared.messages.message.TheConstants.{MESSAGE}
 use Rattle.pgoutput.specs.Message.{content}
 use Rattle.pgoutput.specs.Logical.{FitsLogical, spell_logical}
 use Rattle.pgoutput.specs.Tuple.{tuple}
-use Rattle.pgoutput.specs.declared.old_tuple.OldTuple.{OldTuple}
-use Rattle.pgoutput.specs.declared.old_tuple.OldTuple.TheVariants as olds
+use Rattle.pgoutput.specs.declared.parts.old_tuple.OldTuple.{OldTuple}
+use Rattle.pgoutput.specs.declared.parts.old_tuple.OldTuple.TheVariants as olds
 use Rattle.pgoutput.specs.OldTuple.{old_tuple}
 use Rattle.pgoutput.specs.Update.{old_if_any}
 use Rattle.pgoutput.specs.Truncate.{options_letter}
@@ -30,7 +30,7 @@ use Rattle.publication.specs.Publications.{PublicationSet}
 use Rattle.publication.specs.Logged.{change_message}
 use Rattle.publication.specs.Projection.{MessageFits}
 use Rattle.row_messages.specs.Spelling.{IsPut}
-use Rattle.tables.specs.declared.change.Change.{Change}
+use Rattle.tables.specs.declared.changes.change.Change.{Change}
 use Rattle.tables.specs.Reading.{SpellsBody}
 use Rattle.wal.specs.Log.{Entry}
 use Rattle.reorder.specs.Ready.{IsEntryAt}

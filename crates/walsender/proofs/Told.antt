@@ -4,7 +4,7 @@ use Rattle.std.specs.Prelude.{FitsSigned, IfSome, MatchBool, is_some, option_map
 use Rattle.std.specs.Int.{w64}
 use Rattle.std.specs.List.{All, AllByRecursion}
 use Rattle.pgoutput.specs.declared.logical.Logical.{Logical}
-use Rattle.tables.specs.declared.change.Change.{Change}
+use Rattle.tables.specs.declared.changes.change.Change.{Change}
 use Rattle.tables.specs.Reading.{SpellsBody}
 use Rattle.wal.specs.Log.{Entry}
 use Rattle.publication.specs.Publications.{PublicationSet}

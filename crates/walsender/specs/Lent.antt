@@ -1,7 +1,7 @@
 -- Committed transactions whose changes still lie in the arena.
 use Rattle.std.specs.Prelude.{◌≡◌, ◌&&◌, ℕ, ℤ, not, List, [], ◌∷◌, ◌++◌, if◌then◌else◌}
 use Rattle.std.specs.List.{flat_map}
-use Rattle.pgoutput.specs.declared.commit.Commit.{Commit}
+use Rattle.pgoutput.specs.declared.messages.commit.Commit.{Commit}
 use Rattle.pgoutput.specs.declared.logical.Logical.TheVariants as logical
 use Rattle.publication.specs.Publications.{PublicationSet}
 use Rattle.wal.specs.declared.record.Record.{Record}

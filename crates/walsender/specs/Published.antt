@@ -4,7 +4,7 @@ use Rattle.std.specs.Prelude.{ℕ, ◌==◌, ◌<◌, ◌^◌, Bool, true, false
 use Rattle.pgoutput.specs.declared.logical.Logical.{Logical}
 use Rattle.publication.specs.Publications.{PublicationSet}
 use Rattle.wal.specs.declared.record.Record.{Record}
-use Rattle.tables.specs.declared.change.Change.{Change}
+use Rattle.tables.specs.declared.changes.change.Change.{Change}
 use Rattle.wal.specs.Log.{Entry, Transaction, note_as_transaction, committed_from}
 use Rattle.publication.specs.Logged.{change_message, note_message}
 use Rattle.publication.specs.Projection.{MessageFits}

@@ -4,8 +4,8 @@ use Rattle.std.specs.Int.{w32, from_be_bytes}
 use Rattle.pgoutput.specs.declared.logical.Logical.{Logical}
 use Rattle.pgoutput.specs.declared.logical.Logical.TheVariants as logical
 use Rattle.pgoutput.specs.declared.fault.PgoutputError.{PgoutputError}
-use Rattle.pgoutput.specs.declared.truncate.TheConstants.{TRUNCATE}
-use Rattle.pgoutput.specs.declared.message.TheConstants.{MESSAGE}
+use Rattle.pgoutput.specs.declared.messages.truncate.TheConstants.{TRUNCATE}
+use Rattle.pgoutput.specs.declared.messages.message.TheConstants.{MESSAGE}
 use Rattle.pgoutput.specs.Logical.{spell_logical, whole_of}
 use Rattle.publication.specs.Publications.{PublicationSet}
 use Rattle.pgoutput.specs.declared.published.PublishedChange.{PublishedChange}

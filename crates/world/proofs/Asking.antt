@@ -8,10 +8,10 @@ use Rattle.wal.specs.declared.record.Record.{Record}
 use Rattle.schedule.specs.declared.printed.answer.Answer.{Answer}
 use Rattle.schedule.specs.declared.printed.answer.Answer.TheVariants as answers
 use Rattle.schedule.specs.declared.fault.WorldFault.{WorldFault}
-use Rattle.world.specs.declared.action.Action.{Action}
-use Rattle.world.specs.declared.action.Action.TheVariants as actions
+use Rattle.world.specs.declared.stepping.action.Action.{Action}
+use Rattle.world.specs.declared.stepping.action.Action.TheVariants as actions
 use Rattle.walsender.specs.declared.fault.SendFault.TheVariants as sends
-use Rattle.world.specs.declared.start.Start.{Start}
+use Rattle.world.specs.declared.stepping.start.Start.{Start}
 use Rattle.world.specs.declared.machine.Machine.{Machine}
 use Rattle.world.specs.Start.{StartState}
 use Rattle.world.specs.State.{SubscriberState, open_start}

@@ -11,7 +11,7 @@ use Rattle.wal.proofs.Laws.{all_when}
 use Rattle.publication.specs.Publications.{PublicationSet}
 use Rattle.publication.specs.Selection.{relation}
 use Rattle.copyboth.specs.declared.status.Status.{Status}
-use Rattle.pgoutput.specs.declared.relation.Relation.{Relation}
+use Rattle.pgoutput.specs.declared.messages.relation.Relation.{Relation}
 use Rattle.pgoutput.specs.declared.published.Published.{Published}
 use Rattle.pgoutput.specs.Items.{Item, bytes_of_items}
 use Rattle.pgoutput.specs.Stream.{IsStream}

@@ -11,11 +11,11 @@ use Rattle.schedule.specs.declared.printed.answer.Answer.TheVariants as answers
 use Rattle.schedule.specs.declared.fault.WorldFault.{WorldFault}
 use Rattle.schedule.specs.declared.event.Event.{Event}
 use Rattle.schedule.specs.declared.event.Event.TheVariants as events
-use Rattle.world.specs.declared.action.Action.{Action}
-use Rattle.world.specs.declared.action.Action.TheVariants as actions
-use Rattle.world.specs.declared.start.Start.{Start}
-use Rattle.world.specs.declared.start.Stage.{Stage}
-use Rattle.world.specs.declared.start.Stage.TheVariants as stages
+use Rattle.world.specs.declared.stepping.action.Action.{Action}
+use Rattle.world.specs.declared.stepping.action.Action.TheVariants as actions
+use Rattle.world.specs.declared.stepping.start.Start.{Start}
+use Rattle.world.specs.declared.stepping.start.Stage.{Stage}
+use Rattle.world.specs.declared.stepping.start.Stage.TheVariants as stages
 use Rattle.world.specs.declared.machine.Machine.{Machine}
 use Rattle.world.specs.Start.{StartState, running_count}
 use Rattle.world.specs.State.{SubscriberState, WorldState}

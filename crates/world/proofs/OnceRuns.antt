@@ -19,8 +19,8 @@ use Rattle.schedule.specs.declared.event.ConnectionStep.TheVariants as connectio
 use Rattle.schedule.specs.SessionLines.{Ask, note_ask, step_ask}
 use Rattle.slots.specs.State.{SlotsState, slot_of}
 use Rattle.slots.specs.Words.{slot_named}
-use Rattle.world.specs.declared.action.Action.{Action}
-use Rattle.world.specs.declared.action.Action.TheVariants as actions
+use Rattle.world.specs.declared.stepping.action.Action.{Action}
+use Rattle.world.specs.declared.stepping.action.Action.TheVariants as actions
 use Rattle.world.specs.Start.{StartState, is_open_for}
 use Rattle.configuration.specs.Setting.{Setting}
 use Rattle.world.specs.State.{SubscriberState, WorldState, new_world, open_start, subscriber_of, with_open_start}

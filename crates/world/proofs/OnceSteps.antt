@@ -19,8 +19,8 @@ use Rattle.slots.specs.State.{SlotsState}
 use Rattle.slots.specs.Words.{slot_named, slots_after_confirming, start_from}
 use Rattle.world.specs.Start.{StartState}
 use Rattle.world.specs.Acting.{Acts, new_start}
-use Rattle.world.specs.declared.action.Action.{Action}
-use Rattle.world.specs.declared.action.Action.TheVariants as actions
+use Rattle.world.specs.declared.stepping.action.Action.{Action}
+use Rattle.world.specs.declared.stepping.action.Action.TheVariants as actions
 use Rattle.world.specs.State.{SubscriberState, WorldState, if_known_again, if_there, new_subscriber, open_start, slot_of_connection, subscriber_connected_again, subscriber_of, subscribers_after_reconnect, with_one_for, with_subscriber}
 use Rattle.world.specs.ConnectionLines.{wanted_of, ActsAt, IsStart, slots_after, start_refusal, world_after_start, subscribers_after}
 use Rattle.world.specs.Steps.{IsStepAt}

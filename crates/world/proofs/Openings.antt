@@ -4,9 +4,9 @@ use Rattle.std.specs.Prelude.{IsNone, is_some, slice_get, slice_set}
 use Rattle.std.specs.Str.{bytes_eq}
 use Rattle.std.proofs.lemmas.Bool.{eq-eqb, ne_eqb}
 use Rattle.std.proofs.lemmas.List.{length-append}
-use Rattle.world.specs.declared.start.Start.{Start}
-use Rattle.world.specs.declared.start.Stage.{Stage}
-use Rattle.world.specs.declared.start.Stage.TheVariants as stages
+use Rattle.world.specs.declared.stepping.start.Start.{Start}
+use Rattle.world.specs.declared.stepping.start.Stage.{Stage}
+use Rattle.world.specs.declared.stepping.start.Stage.TheVariants as stages
 use Rattle.world.specs.Start.{StartState, is_open_for}
 use Rattle.world.specs.State.{open_start}
 use Rattle.world.specs.Starts.{start_state, state_with, is_open}

@@ -17,8 +17,8 @@ use Rattle.slots.specs.State.{NamedSlot, SlotsState, confirmed_of, slot_of}
 use Rattle.slots.specs.Words.{slot_named, slots_after_confirming, slots_after_letting_go, slots_after_taking, start_from}
 use Rattle.world.specs.Start.{StartState}
 use Rattle.world.specs.Acting.{new_start}
-use Rattle.world.specs.declared.action.Action.{Action}
-use Rattle.world.specs.declared.action.Action.TheVariants as actions
+use Rattle.world.specs.declared.stepping.action.Action.{Action}
+use Rattle.world.specs.declared.stepping.action.Action.TheVariants as actions
 use Rattle.world.specs.State.{SubscriberState, WorldState, if_known_again, if_there, new_subscriber, open_start, slot_of_connection, subscriber_connected_again, subscriber_of, with_open_start, with_subscriber}
 use Rattle.world.specs.ConnectionLines.{wanted_of, ActsAt, start_refusal, world_after_start, subscribers_after}
 use Rattle.world.specs.Delivering.{Delivers}

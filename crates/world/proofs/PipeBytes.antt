@@ -14,7 +14,7 @@ use Rattle.pqformat.specs.Putting.{Extends, Puts}
 use Rattle.pqformat.proofs.Numbers.{length-int64}
 use Rattle.pqformat.proofs.Putting.{extends_more}
 use Rattle.frames.specs.declared.copy_data.TheConstants.{COPY_DATA}
-use Rattle.frames.specs.declared.frame.TheConstants.{FRAME_LIMIT}
+use Rattle.frames.specs.declared.parts.frame.TheConstants.{FRAME_LIMIT}
 use Rattle.frames.specs.declared.fault.FrameFault.{FrameFault}
 use Rattle.frames.specs.declared.front.Front.{Front}
 use Rattle.frames.specs.declared.front.Front.TheVariants.{CopyData}

@@ -7,7 +7,7 @@ use Rattle.copyboth.specs.declared.status.Status.{Status}
 use Rattle.slots.specs.State.{SlotsState}
 use Rattle.schedule.specs.declared.printed.answer.Answer.TheVariants as answers
 use Rattle.world.specs.declared.machine.Machine.{Machine}
-use Rattle.world.specs.declared.start.Start.{Start}
+use Rattle.world.specs.declared.stepping.start.Start.{Start}
 use Rattle.world.specs.declared.subscriber.Subscriber.{Subscriber}
 use Rattle.world.specs.State.{SubscriberState, subscriber_of, with_subscriber}
 use Rattle.world.specs.Slots.{Acknowledges, PutsBack, has_status, is_waiting, status_with}

@@ -16,7 +16,7 @@ use Rattle.slots.specs.State.{SlotsState}
 use Rattle.slots.specs.Words.{is_held, is_missing, slot_named}
 use Rattle.world.specs.Start.{running_count}
 use Rattle.world.specs.declared.limits.TheConstants.{MAX_SENDERS}
-use Rattle.world.specs.declared.starting.StartFacts.{StartFacts}
+use Rattle.world.specs.declared.stepping.starting.StartFacts.{StartFacts}
 use Rattle.world.specs.State.{WorldState}
 use Rattle.world.specs.Starting.{Told, if_held}
 use Rattle.world.specs.ConnectionLines.{start_refusal}

@@ -16,9 +16,9 @@ use Rattle.schedule.specs.declared.printed.answer.Answer.{Answer}
 use Rattle.schedule.specs.declared.event.Event.{Event}
 use Rattle.schedule.specs.declared.fault.WorldFault.{WorldFault}
 use Rattle.schedule.specs.declared.fault.WorldFault.TheVariants as worlds
-use Rattle.world.specs.declared.start.Start.{Start}
-use Rattle.world.specs.declared.start.Stage.{Stage}
-use Rattle.world.specs.declared.start.Stage.TheVariants as stages
+use Rattle.world.specs.declared.stepping.start.Start.{Start}
+use Rattle.world.specs.declared.stepping.start.Stage.{Stage}
+use Rattle.world.specs.declared.stepping.start.Stage.TheVariants as stages
 use Rattle.world.specs.declared.machine.Machine.{Machine}
 use Rattle.world.specs.State.{WorldState}
 use Rattle.world.specs.Acting.{read_by}

@@ -17,9 +17,9 @@ use Rattle.walsender.specs.Serving.{IsServing, Reads, next_records}
 use Rattle.walsender.proofs.ServedSections.{section_front, section_of}
 use Rattle.walsender.proofs.Skipping.{adds_whole, reads_behind}
 use Rattle.walsender.proofs.Serving.{grown, grown_streaming, no_gap, reading}
-use Rattle.world.specs.declared.action.Action.TheVariants as actions
-use Rattle.world.specs.declared.start.Stage.{Stage}
-use Rattle.world.specs.declared.start.Stage.TheVariants as stages
+use Rattle.world.specs.declared.stepping.action.Action.TheVariants as actions
+use Rattle.world.specs.declared.stepping.start.Stage.{Stage}
+use Rattle.world.specs.declared.stepping.start.Stage.TheVariants as stages
 use Rattle.world.specs.Start.{StartState}
 use Rattle.world.specs.Acting.{read_by}
 use Rattle.world.specs.Acting.{unread_records, after_action, after_reading, answer_of, BreaksDown, Acts}

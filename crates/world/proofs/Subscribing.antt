@@ -7,7 +7,7 @@ use Rattle.std.proofs.lemmas.List.{map-set}
 use Rattle.std.proofs.lemmas.Option.{slice_get_read, slice_get_within}
 use Rattle.schedule.specs.declared.printed.answer.Answer.{Answer}
 use Rattle.world.specs.declared.machine.Machine.{Machine}
-use Rattle.world.specs.declared.start.Start.{Start}
+use Rattle.world.specs.declared.stepping.start.Start.{Start}
 use Rattle.world.specs.declared.subscriber.Subscriber.{Subscriber}
 use Rattle.world.specs.Delivering.{Gets, Delivers}
 use Rattle.world.specs.Start.{StartState, is_open_for}

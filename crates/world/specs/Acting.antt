@@ -11,8 +11,8 @@ use Rattle.walsender.specs.Published.{published_from, published_transactions}
 use Rattle.walsender.specs.Sending.{published_bytes}
 use Rattle.schedule.specs.declared.printed.answer.Answer.{Answer}
 use Rattle.schedule.specs.declared.printed.answer.Answer.TheVariants as answers
-use Rattle.world.specs.declared.action.Action.{Action}
-use Rattle.world.specs.declared.action.Action.TheVariants as actions
+use Rattle.world.specs.declared.stepping.action.Action.{Action}
+use Rattle.world.specs.declared.stepping.action.Action.TheVariants as actions
 use Rattle.world.specs.Start.{StartState}
 
 -- the sender reads the log from this position on

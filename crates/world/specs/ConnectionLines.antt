@@ -6,8 +6,8 @@ use Rattle.publication.specs.Choosing.{conflicts, selected_publications, is_unkn
 use Rattle.schedule.specs.declared.printed.answer.Answer.{Answer}
 use Rattle.schedule.specs.declared.lines.start_options.StartOptions.{StartOptions}
 use Rattle.schedule.specs.declared.printed.answer.Answer.TheVariants as answers
-use Rattle.world.specs.declared.action.Action.{Action}
-use Rattle.world.specs.declared.action.Action.TheVariants as actions
+use Rattle.world.specs.declared.stepping.action.Action.{Action}
+use Rattle.world.specs.declared.stepping.action.Action.TheVariants as actions
 use Rattle.slots.specs.State.{SlotsState}
 use Rattle.slots.specs.declared.fault.SlotFault.TheVariants as slot_faults
 use Rattle.world.specs.Start.{StartState, running_count}

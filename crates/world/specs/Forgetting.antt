@@ -3,7 +3,7 @@
 -- 30.5 and 54.19).
 use Rattle.std.specs.Prelude.{◌≡◌, ◌<◌, ◌⊎◌, ℕ, min, List, [], ◌∷◌, map, if◌then◌else◌}
 use Rattle.slots.specs.Keeping.{confirmed_slot}
-use Rattle.slots.specs.declared.slot.Slot.{Slot}
+use Rattle.slots.specs.declared.by_name.slot.Slot.{Slot}
 use Rattle.txlog.specs.Publishing.{after_give_back, log_end}
 use Rattle.txlog.specs.Giving.{kept_place}
 use Rattle.schedule.specs.declared.printed.answer.Answer.{Answer}

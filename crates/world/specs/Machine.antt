@@ -7,14 +7,14 @@ use Rattle.std.specs.List.{AllByRecursion}
 use Rattle.wal.specs.declared.record.Record.{Record}
 use Rattle.wal.specs.Log.{IsWellFormedLog}
 use Rattle.schedule.specs.declared.printed.answer.Answer.{Answer}
-use Rattle.world.specs.declared.action.Action.{Action}
-use Rattle.world.specs.declared.start.Start.{Start}
+use Rattle.world.specs.declared.stepping.action.Action.{Action}
+use Rattle.world.specs.declared.stepping.start.Start.{Start}
 use Rattle.world.specs.declared.subscriber.Subscriber.{Subscriber}
 use Rattle.world.specs.declared.machine.Machine.{Machine}
 use Rattle.world.specs.declared.limits.TheConstants.{MAX_SENDERS}
 use Rattle.world.specs.Start.{StartState, is_open_for, running_count}
 use Rattle.world.specs.State.{SubscriberState, WorldState, open_start, with_open_start, subscriber_of, with_subscriber}
-use Rattle.shared_log.specs.declared.reader.LogReader.{LogReader}
+use Rattle.shared_log.specs.declared.following.reader.LogReader.{LogReader}
 use Rattle.walsender.specs.Serving.{BeginsAt}
 use Rattle.world.specs.Acting.{Acts}
 use Rattle.world.specs.Starts.{IsServed, is_open, start_state}

@@ -6,7 +6,7 @@ use Rattle.slots.specs.declared.fault.SlotFault.TheVariants as slot_faults
 use Rattle.walsender.specs.declared.beginning.ClaimFault.{ClaimFault}
 use Rattle.walsender.specs.declared.beginning.ClaimFault.TheVariants as claims
 use Rattle.walsender.specs.Beginning.{Question, FindsSlot, Judges, TakesReader, Claims, fault_of}
-use Rattle.world.specs.declared.starting.StartFacts.{StartFacts}
+use Rattle.world.specs.declared.stepping.starting.StartFacts.{StartFacts}
 use Rattle.world.specs.State.{WorldState, with_one_for}
 use Rattle.slots.specs.Words.{is_held, is_missing, slot_named, slots_after_taking, start_from}
 use Rattle.wal.specs.Restart.{restart}

@@ -6,9 +6,9 @@ use Rattle.publication.specs.Publications.{PublicationSet}
 use Rattle.shared_log.specs.Readers.{seen_of}
 use Rattle.walsender.specs.Sending.{SenderState}
 use Rattle.walsender.specs.Serving.{IsStreaming, Serves}
-use Rattle.world.specs.declared.start.Start.{Start}
-use Rattle.world.specs.declared.start.Stage.{Stage}
-use Rattle.world.specs.declared.start.Stage.TheVariants as stages
+use Rattle.world.specs.declared.stepping.start.Start.{Start}
+use Rattle.world.specs.declared.stepping.start.Stage.{Stage}
+use Rattle.world.specs.declared.stepping.start.Stage.TheVariants as stages
 use Rattle.world.specs.Start.{StartState}
 
 -- what a start shows while its sender is there, and once it was cut

@@ -8,7 +8,7 @@ use Rattle.schedule.specs.declared.printed.answer.Answer.{Answer}
 use Rattle.schedule.specs.declared.printed.answer.Answer.TheVariants as answers
 use Rattle.schedule.specs.declared.fault.WorldFault.{WorldFault}
 use Rattle.schedule.specs.declared.fault.WorldFault.TheVariants as worlds
-use Rattle.world.specs.declared.action.Action.TheVariants as actions
+use Rattle.world.specs.declared.stepping.action.Action.TheVariants as actions
 use Rattle.world.specs.State.{WorldState, open_start, subscriber_of}
 use Rattle.schedule.specs.SessionLines.{Ask, SessionState, ask_of, IsCalled, line_takes_memory}
 use Rattle.world.specs.ConnectionLines.{ActsAt, IsStart, start_refusal}

@@ -4,24 +4,19 @@
 //! `World::run` does a list of events, and `World::step` one; `World::answers` lends what each answered, and
 //! `World::starts` what each start of a sender produced.
 //!
-//! Read `world.rt`, `machine.rt`, `start.rt`, then specs/Steps.antt and specs/Law.antt. Above, one contract is used: a run
+//! Read `world.rt`, `machine.rt`, `stepping/start.rt`, then specs/Steps.antt and specs/Law.antt. Above, one contract is used: a run
 //! is its events one after the other, and what each start produced is a beginning of the stream that its log publishes.
 #![tactic(auto)]
 
-mod action;
-mod forgetting;
 mod limits;
 mod machine;
 mod opening;
 mod pipe_back;
 mod reading;
-mod start;
-mod starting;
-mod statuses;
+mod stepping;
 mod subscriber;
 mod world;
 
-pub use action::Action;
 pub use limits::MAX_SENDERS;
 pub use reading::resume;
 pub use schedule::{
@@ -29,6 +24,7 @@ pub use schedule::{
     WorldFault,
 };
 pub use slots::{Slot, SlotFault};
-pub use start::Start;
+pub use stepping::action::Action;
+pub use stepping::start::Start;
 pub use subscriber::Subscriber;
 pub use world::{RunFault, World};

@@ -13,10 +13,10 @@ ghost use Rattle.world.specs.Steps.{IsStep, IsStepAt, is_bad, is_bad_at, is_read
 ghost use Rattle.world.specs.Machine.{ActsIn, IsMachine, IsOpenAt, IsOpenStartAt, subscriber_place, world_of};
 ghost use Rattle.world.specs.Starts.{IsServed, start_state};
 
-use crate::action::Action;
 use crate::limits::MAX_SENDERS;
 use crate::opening::{close, place_among};
-use crate::start::Start;
+use crate::stepping::action::Action;
+use crate::stepping::start::Start;
 use crate::subscriber::{Subscriber, place_of, reconnect};
 use catalog::Catalog;
 use configuration::Config;

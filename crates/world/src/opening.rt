@@ -4,7 +4,7 @@ ghost use Rattle.std.specs.Prelude.{◌≡◌, map, slice_get};
 ghost use Rattle.world.specs.Machine.{is_for, place_among, without_place};
 ghost use Rattle.world.specs.Starts.{start_state};
 
-use crate::start::Start;
+use crate::stepping::start::Start;
 use pqformat::Text;
 use shared_log::LogName;
 

@@ -13,7 +13,7 @@ ghost use Rattle.world.specs.Machine.{IsMachine, subscriber_state, world_of};
 ghost use Rattle.wal.specs.Log.{IsWellFormedLog};
 
 use crate::machine::Machine;
-use crate::start::Start;
+use crate::stepping::start::Start;
 use crate::subscriber::Subscriber;
 use configuration::Config;
 use schedule::{Answer, Event, WorldFault};

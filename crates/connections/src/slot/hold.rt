@@ -5,7 +5,7 @@ ghost use Rattle.slots.specs.Rule.{slot_step, with_step};
 ghost use Rattle.slots.specs.Seats.{Did, DidAt, Holds, IsRefusal};
 ghost use Rattle.slots.specs.Standings.{held_by};
 ghost use Rattle.slots.specs.declared.table.TheConstants.{END_OF_PLACES};
-ghost use Rattle.slots.specs.declared.step.SlotKind.TheVariants.{Claim, Raise, Read, Release};
+ghost use Rattle.slots.specs.declared.words_kept.step.SlotKind.TheVariants.{Claim, Raise, Read, Release};
 
 use slots::{Lease, SlotFault, SlotName, SlotSeat, SlotTable};
 

@@ -3,7 +3,7 @@
 ghost use Rattle.std.specs.Prelude.{◌≡◌, ℕ, ◌<◌, ◌≤◌, None, Some, IfErr, IfOk, IfSome, OnErr, OnOk};
 ghost use Rattle.slots.specs.Directories.{AreSame, ChangesOnly, count_of, place_of};
 ghost use Rattle.slots.specs.Seats.{Did, Made};
-ghost use Rattle.slots.specs.declared.step.SlotKind.TheVariants.{Retire};
+ghost use Rattle.slots.specs.declared.words_kept.step.SlotKind.TheVariants.{Retire};
 ghost use Rattle.slots.specs.declared.table.TheConstants.{END_OF_PLACES};
 ghost use Rattle.connections.specs.Names.{AreInTable, IsNoDrop, IsNoNewSlot};
 

@@ -1,13 +1,17 @@
 //! The backend of a connection over the hub.
 
+use crate::connection::session_copies::SessionCopies;
 use crate::stream::granting::{begin_stream, end_stream};
 use crate::stream::new_stream::NewStream;
 use crate::stream::starting::HubStart;
 use connections::{ConnectionMailbox, RefusedCommand, ServerObserver};
 use pqformat::{Items, Text};
 use replcmd::StreamOptions;
-use server::{Backend, BackendFault, Refusal, TableColumns, TableName};
-use server_state::{ServerState, columns_of, known_names, tables_of};
+use server::{Backend, BackendFault, FoundTable, Refusal, TableAttribute, TableColumns, TableName};
+use server_state::{
+    ServerState, attributes_of, column_lists, columns_of, found_table, known_names, row_filters,
+    tables_of,
+};
 use shared_log::LogName;
 use slots::SlotName;
 use std::net::TcpStream;
@@ -29,6 +33,7 @@ pub(crate) struct HubBackend<'h, L: LogName + SlotName, R: Wait, G: ServerObserv
     pub user: &'h Option<Text>,
     /// The latch of the stream that runs.
     pub latch: Option<usize>,
+    pub copies: SessionCopies,
 }
 
 impl<'h, L: LogName + SlotName, R: Wait, G: ServerObserver> HubBackend<'h, L, R, G> {
@@ -78,6 +83,97 @@ impl<'h, L: LogName + SlotName, R: Wait + Clock, G: ServerObserver> Backend
             self.observer.refused(self.number, &what);
         }
         created
+    }
+
+    fn create_with_snapshot(&mut self, slot: &str) -> Result<u64, BackendFault> {
+        let user = name_of(self.user);
+        match self
+            .server_state
+            .create_slot_with_snapshot(self.rt, slot, user)
+        {
+            Ok(made) => {
+                self.copies.release(self.rt, self.server_state);
+                self.copies.snapshot = Some(made.snapshot);
+                Ok(made.consistent_point)
+            }
+            Err(fault) => {
+                let what = RefusedCommand::OfSlot("CREATE_REPLICATION_SLOT", slot, fault);
+                self.observer.refused(self.number, &what);
+                Err(fault)
+            }
+        }
+    }
+
+    fn release_snapshot(&mut self) {
+        self.copies.release(self.rt, self.server_state);
+    }
+
+    fn table(&mut self, schema: &str, name: &str) -> Result<Option<FoundTable>, BackendFault> {
+        Ok(found_table(&self.server_state.publications, schema, name))
+    }
+
+    fn attributes(&mut self, oid: u32) -> Result<Items<TableAttribute>, BackendFault> {
+        let state = self.server_state;
+        match attributes_of(state.alloc, &state.publications, oid) {
+            Ok(attributes) => Ok(attributes),
+            Err(_) => Err(BackendFault::Memory),
+        }
+    }
+
+    fn column_lists(
+        &mut self,
+        oid: u32,
+        names: &Items<Text>,
+    ) -> Result<Items<Option<Items<u16>>>, BackendFault> {
+        self.judge(names.as_slice())?;
+        let state = self.server_state;
+        match column_lists(state.alloc, &state.publications, oid, names.as_slice()) {
+            Ok(lists) => Ok(lists),
+            Err(_) => Err(BackendFault::Memory),
+        }
+    }
+
+    fn row_filters(
+        &mut self,
+        oid: u32,
+        names: &Items<Text>,
+    ) -> Result<Items<Option<Text>>, BackendFault> {
+        self.judge(names.as_slice())?;
+        let state = self.server_state;
+        match row_filters(state.alloc, &state.publications, oid, names.as_slice()) {
+            Ok(filters) => Ok(filters),
+            Err(_) => Err(BackendFault::Memory),
+        }
+    }
+
+    fn open_copy(
+        &mut self,
+        table: &TableName,
+        columns: &Items<Text>,
+        filter: &Option<Text>,
+    ) -> Result<(), BackendFault> {
+        self.copies.copy = None;
+        let Some(snapshot) = self.copies.snapshot else {
+            return Err(BackendFault::NoCopies);
+        };
+        let filter = filter.as_ref().map(|text| text.as_str());
+        let copy = self.server_state.open_copy(
+            self.rt,
+            snapshot,
+            name_of(self.user),
+            table,
+            columns.as_slice(),
+            filter,
+        )?;
+        self.copies.copy = Some(copy);
+        Ok(())
+    }
+
+    fn next_row(&mut self) -> Result<Option<Items<Option<Text>>>, BackendFault> {
+        match &mut self.copies.copy {
+            Some(copy) => self.server_state.next_row(self.rt, copy),
+            None => Ok(None),
+        }
     }
 
     fn drop_slot(&mut self, slot: &str) -> Result<(), BackendFault> {

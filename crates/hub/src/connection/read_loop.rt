@@ -4,6 +4,7 @@ ghost use Rattle.std.specs.Prelude.{◌≡◌};
 ghost use Rattle.authentication.specs.Guarding.{guarded_phase};
 
 use crate::connection::backend::HubBackend;
+use crate::connection::session_copies::SessionCopies;
 use crate::stream::new_stream::NewStream;
 use authentication::GuardedConnection;
 use bytes::BytesMut;
@@ -13,6 +14,7 @@ use server::Phase;
 use server_state::ServerState;
 use shared_log::LogName;
 use slots::SlotName;
+use std::mem;
 use std::net::TcpStream;
 use std::random::RandomSource;
 use std::sync::Wait;
@@ -34,6 +36,7 @@ struct ReadState {
     patience: Patience,
     /// Who has proved its password, where one was asked.
     user: Option<Text>,
+    copies: SessionCopies,
 }
 
 /// What a reading thread is passed.
@@ -80,6 +83,7 @@ fn read_from<L: LogName + SlotName, R: Wait + Clock, G: ServerObserver>(
             read.server_state.silence(),
         ),
         user: None,
+        copies: SessionCopies::none(),
     };
     let mut end = ConnectionEnd::Client;
     for _ in read.rt.forever() {
@@ -91,6 +95,7 @@ fn read_from<L: LogName + SlotName, R: Wait + Clock, G: ServerObserver>(
     if !state.connection.is_let_in() {
         read.server_state.leave_strangers();
     }
+    state.copies.release(read.rt, read.server_state);
     read.mailbox.pass(read.rt, Phase::Closed);
     tell_work(read, state.latch);
     if end == ConnectionEnd::Client && read.server_state.is_ending() {
@@ -188,12 +193,12 @@ fn answered<L: LogName + SlotName, R: Wait + Clock, G: ServerObserver>(
         socket: read.socket,
         user: &state.user,
         latch: state.latch,
+        copies: mem::replace(&mut state.copies, SessionCopies::none()),
     };
-    let Ok(more) = state.connection.answer(&mut backend, said) else {
-        return None;
-    };
+    let answered = state.connection.answer(&mut backend, said);
     state.latch = backend.latch;
-    Some(more)
+    state.copies = mem::replace(&mut backend.copies, SessionCopies::none());
+    answered.ok()
 }
 
 /// The same of a startup, and of a message by which a password is proved.

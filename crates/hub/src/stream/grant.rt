@@ -9,7 +9,7 @@ ghost use Rattle.hub.specs.Refusals.{of_read};
 ghost use Rattle.hub.specs.Streams.{HasChunksSet, asked_for};
 ghost use Rattle.slots.specs.Rule.{slot_step, with_step};
 ghost use Rattle.slots.specs.Standings.{held_by};
-ghost use Rattle.slots.specs.declared.step.SlotKind.TheVariants.{Claim, Read};
+ghost use Rattle.slots.specs.declared.words_kept.step.SlotKind.TheVariants.{Claim, Read};
 ghost use Rattle.slots.specs.declared.table.TheConstants.{END_OF_PLACES};
 
 use crate::stream::demand::ChunksNeeded;

@@ -5,7 +5,7 @@ ghost use Rattle.std.specs.Io.KnownBytes.{Appends};
 ghost use Rattle.slots.specs.Rule.{slot_step, with_step};
 ghost use Rattle.slots.specs.Seats.{DidAt};
 ghost use Rattle.slots.specs.Standings.{held_by};
-ghost use Rattle.slots.specs.declared.step.SlotKind.TheVariants.{Raise, Release};
+ghost use Rattle.slots.specs.declared.words_kept.step.SlotKind.TheVariants.{Raise, Release};
 ghost use mathlib.Core.List.{IsPrefix};
 ghost use Rattle.shared_log.specs.Readers.{seen_of};
 ghost use Rattle.wal.specs.Log.{IsWellFormedLog};

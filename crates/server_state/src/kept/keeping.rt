@@ -14,9 +14,18 @@ use std::alloc::Global;
 use std::net::TcpStream;
 use std::sync::{MutexGuard, Wait};
 use std::time::{Clock, Duration};
+use txlog::Publisher;
 
 /// How many milliseconds a client waits for a slot to be free before it is looked whether it has gone.
 const LOOK: u64 = 100;
+
+/// A slot that was made, with the snapshot of all that committed below its consistent point.
+#[derive(Clone, Copy)]
+pub struct SlotSnapshot {
+    pub consistent_point: u64,
+    /// Its number.
+    pub snapshot: u64,
+}
 
 impl<L: LogName + SlotName> ServerState<L> {
     /// Where the log ends.
@@ -36,14 +45,63 @@ impl<L: LogName + SlotName> ServerState<L> {
         name: &str,
         user: Option<&str>,
     ) -> Result<u64, BackendFault> {
-        let owner = match user {
-            Some(user) => Some(copied(self.alloc, user)?),
-            None => None,
-        };
+        let owner = self.owner(user)?;
         let publisher = self.publisher.lock(rt);
         let created = self.create_slot_at(rt, name, owner, publisher.end());
         let _ = MutexGuard::unlock(publisher);
         created
+    }
+
+    /// The same with a snapshot of all that committed below that position, which is made in the same step, and its number. The caller
+    /// releases it.
+    pub fn create_slot_with_snapshot<R: Wait>(
+        &self,
+        rt: &R,
+        name: &str,
+        user: Option<&str>,
+    ) -> Result<SlotSnapshot, BackendFault> {
+        let owner = self.owner(user)?;
+        let mut publisher = self.publisher.lock(rt);
+        let created = self.create_over_snapshot(rt, &mut *publisher, name, owner);
+        let _ = MutexGuard::unlock(publisher);
+        created
+    }
+
+    fn create_over_snapshot<R: Wait>(
+        &self,
+        rt: &R,
+        publisher: &mut Publisher<L>,
+        name: &str,
+        owner: Option<Text>,
+    ) -> Result<SlotSnapshot, BackendFault> {
+        let Ok(snapshot) = publisher.open_snapshot() else {
+            drop(owner);
+            return Err(BackendFault::Memory);
+        };
+        match self.create_slot_at(rt, name, owner, publisher.end()) {
+            Ok(consistent_point) => Ok(SlotSnapshot {
+                consistent_point,
+                snapshot,
+            }),
+            Err(fault) => {
+                let _ = publisher.close_snapshot(snapshot);
+                Err(fault)
+            }
+        }
+    }
+
+    /// Lets a snapshot go.
+    pub fn release_snapshot<R: Wait>(&self, rt: &R, snapshot: u64) {
+        let mut publisher = self.publisher.lock(rt);
+        let _ = publisher.close_snapshot(snapshot);
+        let _ = MutexGuard::unlock(publisher);
+    }
+
+    fn owner(&self, user: Option<&str>) -> Result<Option<Text>, BackendFault> {
+        match user {
+            Some(user) => Ok(Some(copied(self.alloc, user)?)),
+            None => Ok(None),
+        }
     }
 
     fn create_slot_at<R: Wait>(

@@ -2,7 +2,7 @@
 
 ghost use Rattle.std.specs.Prelude.{◌≡◌};
 ghost use Rattle.server_state.specs.declared.sessions.change_fault.ChangeFault.TheVariants.{Session};
-ghost use Rattle.txlog.specs.declared.fault.SessionFault.TheVariants.{Memory};
+ghost use Rattle.txlog.specs.declared.answers.fault.SessionFault.TheVariants.{Memory};
 
 use named_rows::FieldFault;
 use std::alloc::{AllocError, AllocFailed};

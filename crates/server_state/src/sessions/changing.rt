@@ -3,7 +3,7 @@
 ghost use Rattle.std.specs.Prelude.{◌≡◌, IfErr, IfOk, None, OnErr, OnOk, Some, map};
 ghost use Rattle.tables.specs.Tables.{table_named};
 ghost use Rattle.named_rows.specs.Fields.{key_columns, row_told};
-ghost use Rattle.txlog.specs.declared.fault.SessionFault.TheVariants.{UnknownTable};
+ghost use Rattle.txlog.specs.declared.answers.fault.SessionFault.TheVariants.{UnknownTable};
 ghost use Rattle.server_state.specs.declared.sessions.change_fault.ChangeFault.TheVariants.{Session};
 ghost use Rattle.server_state.specs.Changing.{Deletes, Finds, Inserts, IsAtField, IsAtKey, IsDeleteRefusal, IsInsertRefusal, IsToldFault, IsUpdateRefusal, OfTable, Truncates, Updates, oid_named, oids_named};
 

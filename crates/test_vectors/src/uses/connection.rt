@@ -5,7 +5,7 @@
 
 ghost use Rattle.std.specs.Prelude.{◌≤◌};
 
-use crate::scripted_backend::ScriptedBackend;
+use crate::talking::scripted_backend::ScriptedBackend;
 use crate::uses::{in_pieces, print_bytes};
 use anyhow::{Context, Result};
 use bytes::BytesMut;

@@ -4,7 +4,7 @@
 ghost use Rattle.std.specs.Prelude.{◌≡◌, ◌+◌, ◌<◌, ◌≤◌, ◌^◌, ◌∷◌, ◌++◌, OnOk, OnErr, length};
 ghost use Rattle.pqformat.specs.Fields.{int32};
 ghost use Rattle.pqformat.specs.Putting.{Puts};
-ghost use Rattle.frames.specs.declared.frame.TheConstants.{FRAME_LIMIT};
+ghost use Rattle.frames.specs.declared.parts.frame.TheConstants.{FRAME_LIMIT};
 ghost use Rattle.frames.specs.Frame.{frame};
 ghost use Rattle.copyboth.specs.XLogData.{xlogdata};
 ghost use Rattle.pgoutput.specs.Words.{word_bytes};

@@ -4,7 +4,7 @@ ghost use Rattle.std.specs.Prelude.{◌≡◌, ◌==◌, ◌&&◌, ◌+◌, ◌�
 ghost use Rattle.copyboth.specs.XLogData.{xlogdata};
 ghost use Rattle.frames.specs.Frame.{frame};
 ghost use Rattle.frames.specs.declared.copy_data.TheConstants.{COPY_DATA};
-ghost use Rattle.frames.specs.declared.frame.TheConstants.{FRAME_LIMIT};
+ghost use Rattle.frames.specs.declared.parts.frame.TheConstants.{FRAME_LIMIT};
 ghost use Rattle.publication.specs.Selection.{selected_oids};
 ghost use Rattle.pgoutput.specs.Words.{word_bytes};
 ghost use Rattle.pgoutput.specs.Items.{keepalive_word};

@@ -4,9 +4,9 @@ use Rattle.pqformat.specs.Writing.{FitsRoom}
 use Rattle.row_messages.specs.Relations.{listed_items, table_as_published}
 use Rattle.row_messages.specs.Tuples.{key_tuple_of, old_by, tuple_of}
 use Rattle.pgoutput.specs.Tuple.{tuple}
-use Rattle.pgoutput.specs.declared.old_tuple.OldTuple.TheVariants.{Key, Full}
-use Rattle.pgoutput.specs.declared.delete.TheConstants.{DELETE}
-use Rattle.pgoutput.specs.declared.old_tuple.TheConstants.{KEY, OLD}
+use Rattle.pgoutput.specs.declared.parts.old_tuple.OldTuple.TheVariants.{Key, Full}
+use Rattle.pgoutput.specs.declared.messages.delete.TheConstants.{DELETE}
+use Rattle.pgoutput.specs.declared.parts.old_tuple.TheConstants.{KEY, OLD}
 use Rattle.row_messages.proofs.Written.{behind_head, deletion_room, head_room}
 use Rattle.row_messages.proofs.put_messages.put_deletion.Goals as goal
 

@@ -1,5 +1,5 @@
 use Rattle.std.proofs.Common.{[], ◌∷◌}
-use Rattle.pgoutput.specs.declared.delete.TheConstants.{DELETE}
+use Rattle.pgoutput.specs.declared.messages.delete.TheConstants.{DELETE}
 use Rattle.row_messages.proofs.Written.{then_int32}
 use Rattle.row_messages.proofs.put_messages.put_head.Goals as goal
 

@@ -1,5 +1,5 @@
 use Rattle.std.proofs.Common.{[], ◌∷◌, ◌++◌}
-use Rattle.pgoutput.specs.declared.insert.TheConstants.{INSERT, NEW}
+use Rattle.pgoutput.specs.declared.messages.insert.TheConstants.{INSERT, NEW}
 use Rattle.pgoutput.specs.Tuple.{tuple}
 use Rattle.row_messages.specs.Relations.{listed_items}
 use Rattle.row_messages.specs.Tuples.{tuple_of}

@@ -1,6 +1,6 @@
 use Rattle.std.proofs.Common.{[], ◌∷◌, ◌++◌}
-use Rattle.pgoutput.specs.declared.insert.TheConstants.{NEW}
-use Rattle.pgoutput.specs.declared.update.TheConstants.{UPDATE}
+use Rattle.pgoutput.specs.declared.messages.insert.TheConstants.{NEW}
+use Rattle.pgoutput.specs.declared.messages.update.TheConstants.{UPDATE}
 use Rattle.pgoutput.specs.Tuple.{tuple}
 use Rattle.pgoutput.specs.Update.{old_if_any}
 use Rattle.row_messages.specs.Relations.{listed_items, table_as_published}

@@ -1,5 +1,5 @@
 use Rattle.std.proofs.Common.{List, subst}
-use Rattle.conditions.specs.declared.token.Token.{Token}
+use Rattle.conditions.specs.declared.words.token.Token.{Token}
 use Rattle.conditions.specs.Views.{GivesPart}
 use Rattle.rowfilter.proofs.Filters.{condition_given}
 use Rattle.conditions.proofs.Sayings.{reading_of}

@@ -5,9 +5,9 @@ use Rattle.std.specs.List.{AllByRecursion}
 use Rattle.pgoutput.specs.declared.fault.PgoutputError.{PgoutputError}
 use Rattle.pgoutput.specs.declared.logical.Logical.{Logical}
 use Rattle.pgoutput.specs.declared.logical.Logical.TheVariants as logical
-use Rattle.pgoutput.specs.declared.tuple.Cell.{Cell}
-use Rattle.pgoutput.specs.declared.tuple.Cell.TheVariants as cells
-use Rattle.pgoutput.specs.declared.old_tuple.OldTuple.{OldTuple}
+use Rattle.pgoutput.specs.declared.parts.tuple.Cell.{Cell}
+use Rattle.pgoutput.specs.declared.parts.tuple.Cell.TheVariants as cells
+use Rattle.pgoutput.specs.declared.parts.old_tuple.OldTuple.{OldTuple}
 use Rattle.pgoutput.specs.Tuple.{FitsCell, FitsSentCell, FitsSentTuple, FitsTuple, IsShortCell, IsShortTuple}
 use Rattle.pgoutput.specs.OldTuple.{cells_of}
 use Rattle.pgoutput.specs.Update.{FitsIfAny, IsShortIfAny}

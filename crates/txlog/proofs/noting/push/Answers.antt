@@ -1,4 +1,4 @@
-use Rattle.tables.specs.declared.change.Change.TheVariants as changes
+use Rattle.tables.specs.declared.changes.change.Change.TheVariants as changes
 use Rattle.tables.proofs.Lengths.{short_message}
 use Rattle.txlog.proofs.Calls.{change_fits}
 use Rattle.txlog.proofs.noting.push.Goals as goal

@@ -1,7 +1,7 @@
 use Rattle.std.proofs.Common.{◌+◌, arith, length, subst}
 use Rattle.tables.specs.Spelling.{row_length}
 use Rattle.publication_config.specs.Published.{PublicationSet}
-use Rattle.tables.specs.declared.change.Change.TheVariants.{Delete}
+use Rattle.tables.specs.declared.changes.change.Change.TheVariants.{Delete}
 use Rattle.publication.specs.Projection.{message_by}
 use Rattle.publication.specs.Selection.{FitTables}
 use Rattle.publication.proofs.Fields.{row_size}

@@ -1,5 +1,5 @@
 use Rattle.std.proofs.Common.{List, subst, sym}
-use Rattle.conditions.specs.declared.step.Step.{Step}
+use Rattle.conditions.specs.declared.flat.step.Step.{Step}
 use Rattle.conditions.specs.Shapes.{shape}
 use Rattle.conditions.specs.Steps.{LeadDown, turns}
 use Rattle.conditions.proofs.Stepping.{all_down}

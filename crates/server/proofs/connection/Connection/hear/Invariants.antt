@@ -1,9 +1,8 @@
-use Rattle.std.proofs.Common.{length}
-use Rattle.server.specs.Segment.{Went, HasText}
+use Rattle.server.specs.Segment.{Went, HasCause, most_turns}
 use Rattle.server.proofs.connection.Connection.hear.Given as goal
 
 abbrev pub invariant-loop : goal.invariant-loop
-invariant-loop g l = Went g.D.Backend.told HasText l.bytes l.fn.self l.fn.backend l.fn.out.items l.self l.backend l.out.items
+invariant-loop g l = Went g.D.Backend.told HasCause l.bytes l.fn.self l.fn.backend l.fn.out.items l.self l.backend l.out.items
 
 abbrev pub decreases-loop : goal.decreases-loop
-decreases-loop g l = length l.self.pending.items
+decreases-loop g l = most_turns l.self

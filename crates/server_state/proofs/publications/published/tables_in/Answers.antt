@@ -4,7 +4,7 @@ use Rattle.std.specs.Prelude.{List}
 use Rattle.std.specs.List.{AllByRecursion}
 use Rattle.std.proofs.lemmas.List.Elements.{filter_map-append}
 use Rattle.server.specs.Answers.{IsShortName}
-use Rattle.server.specs.declared.table_name.TableName.{TableName}
+use Rattle.server.specs.declared.asked.table_name.TableName.{TableName}
 use Rattle.server_state.proofs.Telling.{all_more}
 use Rattle.server_state.proofs.publications.published.tables_in.Goals.{in-Some+in_ok-push, in_default}
 use Rattle.server_state.proofs.publications.published.tables_in.Goals as goal

@@ -1,5 +1,5 @@
 use Rattle.std.proofs.Common.{◌≡◌, ℕ, ap, subst, ◌∙◌}
-use Rattle.slots.specs.declared.step.SlotKind.TheVariants.{Raise, Release}
+use Rattle.slots.specs.declared.words_kept.step.SlotKind.TheVariants.{Raise, Release}
 use Rattle.slots.specs.Rule.{slot_step, with_step}
 use Rattle.slots.specs.Seats.{DidAt}
 use Rattle.slots.specs.Standings.{held_by}

@@ -1,6 +1,6 @@
 use Rattle.std.proofs.Common.{ℕ, sym, ap, subst, cond, eqb, ◌∙◌, arith}
-use Rattle.slots.specs.declared.step.SlotKind.TheVariants.{Create}
-use Rattle.slots.specs.declared.step.View.{View}
+use Rattle.slots.specs.declared.words_kept.step.SlotKind.TheVariants.{Create}
+use Rattle.slots.specs.declared.words_kept.step.View.{View}
 use Rattle.slots.specs.Rule.{word_at}
 use Rattle.slots.specs.Seats.{Did}
 use Rattle.slots.specs.Standings.{held_by}

@@ -1,5 +1,5 @@
 use Rattle.std.proofs.Common.{◌≡◌, subst, List, [], ◌∷◌, ◌++◌, Some, sym, ◌∙◌}
-use Rattle.tables.specs.declared.change.Change.TheVariants as changes
+use Rattle.tables.specs.declared.changes.change.Change.TheVariants as changes
 use Rattle.store.specs.Rows.{key_of}
 use Rattle.std.specs.Prelude.{is_some}
 use Rattle.store.specs.History.{Made, change_made, insert_fault, insert_refusal}

@@ -1,5 +1,5 @@
 use Rattle.std.proofs.Common.{◌≡◌, subst, sym, List, [], ◌∷◌, ◌++◌}
-use Rattle.tables.specs.declared.change.Change.TheVariants as changes
+use Rattle.tables.specs.declared.changes.change.Change.TheVariants as changes
 use Rattle.store.specs.History.{Made, change_made}
 use Rattle.store.specs.Keeping.{Keeps, IsSame}
 use Rattle.store.specs.Emptying.{Does}

@@ -1,5 +1,5 @@
 use Rattle.std.proofs.Common.{arith, ◌^◌, ◌∷◌, [], ◌++◌, sym, subst}
-use Rattle.tables.specs.declared.change.Change.{Change}
+use Rattle.tables.specs.declared.changes.change.Change.{Change}
 use Rattle.store.specs.Keeping.{Keeps}
 use Rattle.store.specs.History.{change_made}
 use Rattle.tables.proofs.Lengths.{coded_of_fits, short_of_fits}

@@ -1,5 +1,5 @@
 use Rattle.std.proofs.Common.{◌<◌, List, ap, arith, sym, subst}
-use Rattle.tables.specs.declared.change.Change.TheVariants as changes
+use Rattle.tables.specs.declared.changes.change.Change.TheVariants as changes
 use Rattle.tables.proofs.Lengths.{short_message}
 use Rattle.wal.specs.declared.record.Record.{Record}
 use Rattle.txlog.specs.Publishing.{PublisherState, room}

@@ -1,6 +1,6 @@
 use Rattle.std.proofs.Common.{◌∷◌, [], ap, arith, subst}
 use Rattle.std.specs.Int.{w64, cast_unsigned}
-use Rattle.pgoutput.specs.declared.begin.TheConstants.{BEGIN}
+use Rattle.pgoutput.specs.declared.messages.begin.TheConstants.{BEGIN}
 use Rattle.pqformat.specs.Fields.{int32, int64}
 use Rattle.pqformat.specs.Writing.{Writes}
 use Rattle.pqformat.proofs.Numbers.{length-int64}

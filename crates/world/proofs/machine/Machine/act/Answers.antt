@@ -1,6 +1,6 @@
 use Rattle.std.proofs.Common.{◌≡◌, ℕ, List, Option, map, sym, ap, subst, ◌∙◌}
 use Rattle.std.specs.List.{AllByRecursion}
-use Rattle.world.specs.declared.action.Action.{Action}
+use Rattle.world.specs.declared.stepping.action.Action.{Action}
 use Rattle.slots.specs.State.{SlotsState}
 use Rattle.world.specs.State.{SubscriberState, WorldState}
 use Rattle.slots.specs.Words.{slots_after_letting_go}

@@ -1,7 +1,7 @@
 use Rattle.std.proofs.Common.{◌≡◌, ◌++◌, ◌∷◌, [], List, length, map, ap, sym, subst, arith, true, ◌∙◌}
 use Rattle.std.proofs.lemmas.List.{map-append}
 use Rattle.std.specs.List.{AllByRecursion}
-use Rattle.world.specs.declared.start.Start.{Start}
+use Rattle.world.specs.declared.stepping.start.Start.{Start}
 use Rattle.world.specs.Start.{StartState, running_count}
 use Rattle.world.specs.State.{SubscriberState, with_one_for}
 use Rattle.world.specs.Starts.{IsServed, start_state}

@@ -1,6 +1,6 @@
 use Rattle.std.proofs.Common.{arith, subst, sym}
 use Rattle.slots.specs.Directories.{place_of}
-use Rattle.slots.specs.declared.step.View.{View}
+use Rattle.slots.specs.declared.words_kept.step.View.{View}
 use Rattle.connections.specs.Names.{IsNoNewSlot}
 use Rattle.connections.proofs.Dropping.{dropped}
 use Rattle.connections.proofs.Naming.{added_in_table, refused, same_in_table}

@@ -2,7 +2,7 @@ use Rattle.std.proofs.Common.{[], length, subst, sym}
 use Rattle.std.proofs.Math.Logic.{∥∥₁_map}
 use Rattle.std.proofs.lemmas.List.{append-nil}
 use Rattle.shared_log.specs.Readers.{seen_of}
-use Rattle.shared_log.specs.declared.reader.LogReader.{LogReader}
+use Rattle.shared_log.specs.declared.following.reader.LogReader.{LogReader}
 use Rattle.walsender.specs.Serving.{Serves}
 use Rattle.hub.specs.declared.stream.grant.TheConstants.{LIMIT}
 use Rattle.hub.proofs.Resuming.{begins_in}

@@ -1,0 +1,4 @@
+//! Conditions laid out flat.
+
+pub(crate) mod step;
+pub(crate) mod steps;

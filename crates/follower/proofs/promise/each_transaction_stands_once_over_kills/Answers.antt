@@ -1,5 +1,0 @@
-use Rattle.follower.proofs.Lived.{over_lives}
-use Rattle.follower.proofs.promise.each_transaction_stands_once_over_kills.Goals as goal
-
-pub returns : goal.returns
-returns c = over_lives

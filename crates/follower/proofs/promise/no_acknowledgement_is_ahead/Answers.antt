@@ -1,5 +1,0 @@
-use Rattle.follower.proofs.Lived.{none_ahead}
-use Rattle.follower.proofs.promise.no_acknowledgement_is_ahead.Goals as goal
-
-pub returns : goal.returns
-returns c = none_ahead

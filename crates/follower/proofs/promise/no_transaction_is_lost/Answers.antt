@@ -1,5 +1,0 @@
-use Rattle.follower.proofs.Deeds.{none_lost}
-use Rattle.follower.proofs.promise.no_transaction_is_lost.Goals as goal
-
-pub returns : goal.returns
-returns c = none_lost

@@ -1,0 +1,5 @@
+//! Transactions that are handed out one by one.
+
+pub(crate) mod row;
+pub(crate) mod told_tables;
+pub(crate) mod transaction;

@@ -1,5 +1,0 @@
-use Rattle.frames.proofs.Startups.{same_startup}
-use Rattle.frames.proofs.startup.no_startup_begins_another.Goals as goal
-
-pub returns : goal.returns
-returns c = same_startup

@@ -1,0 +1,7 @@
+//! What lines are made of.
+
+pub(crate) mod cell_text;
+pub(crate) mod members;
+pub(crate) mod part;
+pub(crate) mod rows;
+pub(crate) mod values;

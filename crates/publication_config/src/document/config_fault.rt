@@ -1,0 +1,128 @@
+//! Why a text names no publications.
+
+ghost use Rattle.std.specs.Prelude.{◌≡◌};
+ghost use Rattle.publication_config.specs.declared.document.config_fault.Unread.TheVariants.{Memory};
+
+use rowfilter::FilterFault;
+use std::alloc::{AllocError, AllocFailed};
+use std::fmt;
+
+/// A table of a publication of a configuration: the numbers of both, from 1. The tables of a publication of schemas, or of all tables, are
+/// counted in the order of the catalogue.
+#[derive(Clone, Copy, Debug, PartialEq, Eq)]
+pub struct Place {
+    pub publication: usize,
+    pub table: usize,
+}
+
+impl fmt::Display for Place {
+    fn fmt<W: fmt::Write>(&self, f: &mut fmt::Formatter<W>) -> fmt::Result {
+        write!(f, "publication {}, table {}", self.publication, self.table)
+    }
+}
+
+/// A member of a publication of a configuration.
+#[derive(Clone, Copy, Debug, PartialEq, Eq)]
+pub enum Member {
+    Name,
+    Publish,
+    Tables,
+    Schemas,
+    AllTables,
+    /// None of the three before, or more than one of them.
+    OneOfThree,
+    /// One that no publication has.
+    Other,
+}
+
+impl fmt::Display for Member {
+    fn fmt<W: fmt::Write>(&self, f: &mut fmt::Formatter<W>) -> fmt::Result {
+        f.write_str(match self {
+            Member::Name => "name: a name that no other publication has",
+            Member::Publish => "publish: a list of insert, update, delete and truncate",
+            Member::Tables => "tables: a list of one or more tables",
+            Member::Schemas => "schemas: a list of one or more schemas of tables, each once",
+            Member::AllTables => "all_tables: true",
+            Member::OneOfThree => "exactly one of tables, schemas and all_tables",
+            Member::Other =>
+                "name, publish, one of tables, schemas and all_tables, and no other member",
+        })
+    }
+}
+
+/// A member of a table of a publication.
+#[derive(Clone, Copy, Debug, PartialEq, Eq)]
+pub enum TableMember {
+    Name,
+    Where,
+    Columns,
+    /// One that no table of a publication has.
+    Other,
+}
+
+impl fmt::Display for TableMember {
+    fn fmt<W: fmt::Write>(&self, f: &mut fmt::Formatter<W>) -> fmt::Result {
+        f.write_str(match self {
+            TableMember::Name =>
+                "name: schema and name of a table, joined by a dot, that the publication has once",
+            TableMember::Where => "where: the text of a filter",
+            TableMember::Columns =>
+                "columns: a list of one or more columns of the table, each once",
+            TableMember::Other => "name, where, columns, and no other member",
+        })
+    }
+}
+
+/// What is wrong with the publications of a configuration.
+#[derive(Clone, Copy, Debug, PartialEq, Eq)]
+pub enum Misfit {
+    /// `publication` is something else than a list.
+    NoList,
+    /// This member of this publication; the first publication is number 1.
+    Publication(usize, Member),
+    /// This member of this table of a publication.
+    Table(Place, TableMember),
+}
+
+impl fmt::Display for Misfit {
+    fn fmt<W: fmt::Write>(&self, f: &mut fmt::Formatter<W>) -> fmt::Result {
+        match self {
+            Misfit::NoList => f.write_str("publication is no list of publications"),
+            Misfit::Publication(number, member) => write!(f, "publication {number} wants {member}"),
+            Misfit::Table(place, member) => write!(f, "{place} wants {member}"),
+        }
+    }
+}
+
+/// Why a document names no publications.
+#[derive(Clone, Copy)]
+pub(crate) enum Refusal {
+    Misfit(Misfit),
+    BadFilter(Place, FilterFault),
+    NoIdentity(Place),
+    ListWithoutIdentity(Place),
+    FilterOutsideIdentity(Place),
+}
+
+/// Why a part of a configuration was not read.
+#[derive(Clone, Copy)]
+pub(crate) enum Unread {
+    Refused(Refusal),
+    Memory,
+}
+
+impl From<AllocError> for Unread {
+    ghost from_gives = { λ _ e. e ≡ Memory };
+
+    fn from(_e: AllocError) -> Unread {
+        Unread::Memory
+    }
+}
+
+impl<T: Drop> From<AllocFailed<T>> for Unread {
+    ghost from_gives = { λ _ e. e ≡ Memory };
+
+    fn from(_e: AllocFailed<T>) -> Unread {
+        Unread::Memory
+    }
+}

@@ -1,0 +1,8 @@
+//! What commands are told beside names.
+
+pub(crate) mod publications;
+pub(crate) mod setting;
+pub(crate) mod slot_options;
+pub(crate) mod snapshot;
+pub(crate) mod strictness;
+pub(crate) mod unrecognized;

@@ -1,7 +1,0 @@
-use Rattle.std.proofs.Common.{◌≡◌, length, ◌-◌}
-use Rattle.scram.specs.Attributes.{proof_at}
-use Rattle.scram.proofs.attributes.Attributes.proof.Given as goal
-
--- What is left gives what all of it gives.
-abbrev pub invariant-loop-count : goal.invariant-loop-count
-invariant-loop-count l = proof_at (l._count-end - l._count) l.self ≡ proof_at (length l.fn.self) l.fn.self

@@ -1,5 +1,0 @@
-use Rattle.server.proofs.Once.{once}
-use Rattle.server.proofs.question.no_text_asks_two_questions.Goals as goal
-
-pub returns : goal.returns
-returns c = once

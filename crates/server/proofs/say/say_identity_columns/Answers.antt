@@ -1,4 +1,0 @@
-use Rattle.server.proofs.say.say_identity_columns.Goals as goal
-
-pub returns : goal.returns
-returns c = rw c.in_ok-columns.ensures at c.say_columns.ensures

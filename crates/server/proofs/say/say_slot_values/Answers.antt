@@ -1,4 +1,0 @@
-use Rattle.server.proofs.say.say_slot_values.Goals as goal
-
-pub returns : goal.returns
-returns c = rw c.in_ok-values.ensures.value at c.say_values.ensures

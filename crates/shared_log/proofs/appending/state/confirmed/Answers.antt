@@ -1,0 +1,7 @@
+use Rattle.std.proofs.Common.{ap, ◌∙◌}
+use Rattle.shared_log.specs.Fronts.{ends_confirmed}
+use Rattle.shared_log.proofs.Fronts.{ends_confirm}
+use Rattle.shared_log.proofs.appending.state.confirmed.Goals as goal
+
+pub returns-clause-ends : goal.returns-clause-ends
+returns-clause-ends g c = ap ends_confirmed c.if-not-confirm.ensures ∙ ends_confirm c.args.front

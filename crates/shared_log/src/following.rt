@@ -1,0 +1,4 @@
+//! The readers.
+
+pub(crate) mod reader;
+pub(crate) mod resuming;

@@ -1,0 +1,10 @@
+use Rattle.std.proofs.Common.{subst}
+use Rattle.store.specs.Emptying.{AreAtPlace}
+use Rattle.store.proofs.Truncating.{at_place}
+use Rattle.store.proofs.places.slots.Slots.is_held_within.Goals as goal
+
+pub returns-then-is_within-clause-places : goal.returns-then-is_within-clause-places
+returns-then-is_within-clause-places c = subst AreAtPlace c.self.view_is (at_place c.self.inside.by_place.entries c.iter-place-items.ensures.unique)
+
+pub returns-clause-places : goal.returns-clause-places
+returns-clause-places c = subst AreAtPlace c.self.view_is (at_place c.self.inside.by_place.entries c.iter-place-items.ensures.unique)

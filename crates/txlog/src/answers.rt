@@ -1,0 +1,5 @@
+//! What calls answer, and why they refuse.
+
+pub(crate) mod fault;
+pub(crate) mod receipt;
+pub(crate) mod snapshot_fault;
