@@ -63,7 +63,7 @@ NO_SUCH = "42704"
 NEAR_MODES = [(MODE[:-1], NO_SUCH), ("SHOW work_mem", NO_SUCH), ("SHOW a.b", SYNTAX), ("SHOW ", SYNTAX), ("SHOW ALL", SYNTAX)]
 
 ENDED = "'p'); DROP_REPLICATION_SLOT s; ("
-LISTS = ["", "p", '"p"', "'p' ", " 'p'", "'p','p'", "'p',  'p'", "'p', ", "'p',", "'p''", "'p' -- ", "'p'/**/", "E'p'", ENDED]
+LISTS = ["", "p", '"p"', "'p' ", " 'p'", "'p','p'", "'p',  'p'", "'p', ", "'p',", "'p''", "'p' -- ", "'p'/**/", "E 'p'", "E'p\\x'", "E'p\\'", ENDED]
 NEAR = [
     *(text.format(each) for text in (PUBLICATIONS, TABLES, COLUMNS) for each in LISTS),
     *(change(text) for text in (PATH, MODE, COPY, PUBLICATIONS.format("'p'"), TABLES.format("'p'"), COLUMNS.format("'p'")) for change in (
