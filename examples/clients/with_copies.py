@@ -7,13 +7,11 @@ After that each table has to hold exactly what is published of the script's rows
 import json
 import pathlib
 import random
-import sys
 import tempfile
 
-from cluster import Cluster, is_installed
+from cluster import Cluster
 from driven import Driven
-from groups import end_by_signals
-from with_subscription import comes
+from with_subscription import comes, main_of
 
 SERVER = '[server]\nsystemid = "42"\nrecords = 1048576\nchunks = 1024\n\n'
 # Of each column: its name, its type here and there, and where it belongs to the key.
@@ -208,16 +206,5 @@ def run(pubd, seed, count):
             return wrong + server.end()
 
 
-def main():
-    end_by_signals()
-    if not is_installed():
-        print("left out, for want of PostgreSQL's server")
-        return
-    seed, count = (int(word) for word in (*sys.argv[2:], *(1, 2000)[len(sys.argv) - 2 :]))
-    wrong = run(sys.argv[1], seed, count)
-    print(*wrong or ["got what is due"], sep="\n")
-    sys.exit(bool(wrong))
-
-
 if __name__ == "__main__":
-    main()
+    main_of(run, 1, 2000)

@@ -167,15 +167,17 @@ def run(pubd, seed):
         return wrong + server.end()
 
 
-def main():
+def main_of(run, *usual):
+    """Runs it with the numbers of the command line, or the usual ones, and tells what is wrong."""
     end_by_signals()
     if not is_installed():
         print("left out, for want of PostgreSQL's server")
         return
-    wrong = run(sys.argv[1], int(sys.argv[2]) if len(sys.argv) > 2 else 1)
+    given = [int(word) for word in sys.argv[2:]]
+    wrong = run(sys.argv[1], *given, *usual[len(given) :])
     print(*wrong or ["got what is due"], sep="\n")
     sys.exit(bool(wrong))
 
 
 if __name__ == "__main__":
-    main()
+    main_of(run, 1)
