@@ -1,20 +1,20 @@
 -- Each chunk is free, one of a live xid, or one of what is ready.
-use Rattle.std.proofs.Common.{◌≡◌, ◌⊎◌, inl, inr, ℕ, ◌+◌, ◌<◌, ◌==◌, Bool, true, false, cond, ◌||◌, List, [], ◌∷◌, ◌++◌, Option, Some, None, get_or, length, map, set, refl, sym, ap, subst, ◌∙◌, arith, length-set}
-use Rattle.std.specs.Prelude.{IsSome}
-use Rattle.std.specs.List.{AllByRecursion, sum_by}
-use Rattle.std.proofs.lemmas.Bool.{eqb-true, eqb-false}
+use Rattle.std.proofs.Common.{◌≡◌, ◌⊎◌, inl, inr, ℕ, ◌+◌, ◌<◌, ◌≤◌, ◌==◌, Bool, true, false, cond, ◌||◌, List, [], ◌∷◌, ◌++◌, Option, Some, None, get_or, length, map, set, refl, sym, ap, subst, ◌∙◌, arith, length-set}
+use Rattle.std.specs.Prelude.{IsSome, nat_le}
+use Rattle.std.specs.List.{AllByRecursion, fold, sum_by}
+use Rattle.std.proofs.lemmas.Bool.{eqb-true, eqb-false, lt-leb}
 use Rattle.std.proofs.lemmas.List.{get_or-set_same, get_or-set_other}
 use Rattle.std.proofs.lemmas.List.Folds.{list_any-append}
 use Rattle.std.proofs.lemmas.List.Sums.{sum_by-cons}
-use Rattle.chgarena.specs.Fill.{fill, sizes}
-use Rattle.chgarena.specs.Strands.{Strands as Arena, fills}
+use Rattle.chgarena.specs.Fill.{fill, sizes, with_size}
+use Rattle.chgarena.specs.Strands.{Strands as Arena, entries_of, fills}
 use Rattle.tables.specs.declared.changes.change.Change.{Change}
 use Rattle.tables.specs.Spelling.{body_length}
 use Rattle.wal.specs.declared.record.Record.{Record}
 use Rattle.wal.specs.declared.record.Body.TheVariants.{Change as Changed}
 use Rattle.wal.specs.Log.{is_dropped}
 use Rattle.reorder.specs.Pool.{AreApart, HoldEntries, IsLent, IsPool, Lasts, PoolState, StaysLent, entries_by, map_with, strand_of}
-use Rattle.reorder.specs.Ready.{IsReadyIn, ReadyState}
+use Rattle.reorder.specs.Ready.{IsReadyIn, PlaceState, ReadyState}
 use Rattle.reorder.specs.Strands.{by_xid, is_in}
 use Rattle.reorder.specs.Bookkeeping.{AreStrandsOf}
 use Rattle.reorder.specs.Chunks.{HasNoRoom, IsHeldBy, IsOwned, IsTidy, IsWhole, live_chunks}
@@ -294,3 +294,50 @@ no_room_beside s rs ws count size r xid change book are tidy is long live some n
   split = chunks_beside s rs ws count none.pool none.hold book are (settled_tidy s ws count are tidy) ∙ none.fills ∙ tidy.chunks;
   full = no_room_of s.strands rs (live_chunks rs) size r xid change book refl is long live some none;
 }
+
+-- ---- what is ready fills a chunk, if it has a change
+
+more_filled : (at : ℕ × ℕ) (ns : List ℕ) → at.0 ≤ (fold with_size at ns).0
+more_filled at [] = omega arith
+more_filled at (n ∷ ns) = by_test (λ next. more_filled next ns) (nat_le (at.1 + (n + 4)) 16384)
+  where
+    by_test : ((next : ℕ × ℕ) → next.0 ≤ (fold with_size next ns).0) → (fits : Bool) → at.0 ≤ (fold with_size (cond fits (at.0, at.1 + (n + 4)) (at.0 + 1, n + 4)) ns).0
+    by_test later true = later (at.0, at.1 + (n + 4))
+    by_test later false = let low = later (at.0 + 1, n + 4) in omega (arith, low)
+
+entries_fill : (es : List (List ℕ)) → 0 < length es → 0 < fill (sizes es)
+entries_fill [] some = absurd (omega (arith, some))
+entries_fill (e ∷ es) some =
+    let first : with_size (0, 16384) (length e) ≡ (1, length e + 4) = ap (λ fits. cond fits (0, 16384 + (length e + 4)) (1, length e + 4)) (lt-leb (16384 + (length e + 4)) 16384 (omega arith)) in
+    let low = more_filled (1, length e + 4) (sizes es) in
+    let is : fill (sizes (e ∷ es)) ≡ (fold with_size (1, length e + 4) (sizes es)).0 = ap (λ at. (fold with_size at (sizes es)).0) first in
+    omega (arith, low, is)
+
+one_of_sum : (f : ℕ → ℕ) (heads : List ℕ) (head : ℕ) → is_in head heads ≡ true → f head ≤ sum_by f heads
+one_of_sum f [] head inn = let never : false ≡ true = inn in cc
+one_of_sum f (q ∷ heads) head inn = by_test (one_of_sum f heads head) (head == q) refl inn
+  where
+    by_test : (is_in head heads ≡ true → f head ≤ sum_by f heads) → (here : Bool) → (head == q) ≡ here → (here || is_in head heads) ≡ true → f head ≤ sum_by f (q ∷ heads)
+    by_test later true same at = let is : f head ≡ f q = ap f (eqb-true head q same) in omega (arith, is, sum_by-cons f q heads)
+    by_test later false other at = let low = later at in omega (arith, low, sum_by-cons f q heads)
+
+ready_fills : (pool : PoolState) (ready : ReadyState) → IsReadyIn pool ready → 0 < length ready.places → 0 < ready_chunks pool.arena ready
+ready_fills pool ready is some = by_strand (strand_of ready.strands at.xid) refl (let there = is.places 0 none some in omega (arith, there))
+  where
+    none : PlaceState
+    none = record { xid = 0; place = 0 }
+
+    at : PlaceState
+    at = get_or ready.places 0 none
+
+    by_strand : (o : Option (Option ℕ)) → strand_of ready.strands at.xid ≡ o → 0 < length (entries_by pool.arena o) → 0 < ready_chunks pool.arena ready
+    by_strand None own long = absurd (omega (arith, long))
+    by_strand (Some None) own long = absurd (omega (arith, long))
+    by_strand (Some (Some head)) own long =
+        let low = one_of_sum (λ q. fill (sizes (entries_of pool.arena (Some q)))) (ready_heads ready) head (head_of pool ready is at.xid head own) in
+        let more = entries_fill (entries_of pool.arena (Some head)) long in
+        omega (arith, low, more)
+
+pub lent_fill : (s : ReorderState) (ws : List ReadyState) → AreLentIn s ws → AllByRecursion (λ (w : ReadyState). 0 < length w.places) ws → 0 < length ws → 0 < lent_chunks s ws
+lent_fill s [] are each some = absurd (omega (arith, some))
+lent_fill s (w ∷ ws) are each some = let first = ready_fills s.strands.pool w are.0 each.0 in omega (arith, first, sum_by-cons (ready_chunks s.strands.pool.arena) w ws)

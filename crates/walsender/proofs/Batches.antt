@@ -18,7 +18,7 @@ use Rattle.tables.specs.declared.changes.change.Change.{Change}
 use Rattle.wal.specs.Log.{note_as_transaction, committed_at, committed_from, end_of}
 use Rattle.wal.proofs.Laws.{end_of-append, committed_from-append}
 use Rattle.reorder.specs.Chunks.{LeavesNoRoom}
-use Rattle.reorder.specs.Taking.{HasTaken, MayCome, promised_changes}
+use Rattle.reorder.specs.Taking.{HasTaken, MayCome, StartsBehind, promised_changes}
 use Rattle.publication.specs.Selection.{relation}
 use Rattle.pgoutput.specs.declared.messages.relation.Relation.{Relation}
 use Rattle.pgoutput.specs.declared.published.Published.{Published}
@@ -26,7 +26,7 @@ use Rattle.pgoutput.specs.Words.{word_bytes, frames_of}
 use Rattle.pgoutput.specs.Items.{Block, FitsPublished, words_of, item_words, bytes_of_items, relations_sent_by_all, relations_sent_through}
 use Rattle.walsender.specs.Published.{published_transactions, published_as, published_from, published_note, has_message}
 use Rattle.walsender.specs.Lent.{AreLastOf, LentTransaction, sent_transactions}
-use Rattle.walsender.specs.Sending.{SenderState, MayFollow, HasChunks, HasRead, LacksRoom, blocks, published_bytes, published_by_record, sent_by_record, ReadOne, ReadAll, RanOut, OutputUnchanged, AddsPublished}
+use Rattle.walsender.specs.Sending.{SenderState, MayFollow, HasChunks, HasRead, HasRoom, LacksRoom, blocks, published_bytes, published_by_record, sent_by_record, ReadOne, ReadAll, RanOut, OutputUnchanged, AddsPublished}
 use Rattle.walsender.proofs.Lasting.{last_more, last_then, sent_by_record_is, sent_from-append}
 
 -- ---- items after items
@@ -105,7 +105,7 @@ ReadOne-ReadAll clock old new r one = record {
   after = λ before has may.
       let taken = one.takes.after before has.taken may.0 may.1 in
       let is : commits ≡ published_from old.selection old.start before (r ∷ []) = ap (published_by_record old.selection old.start r) taken.1 ∙ published_by_record_is old.selection old.start before r in
-      (record { taken = taken.0; relations_sent = sent before has is; lent = lent before has may taken.1 }, adds before has is);
+      (record { taken = taken.0; running = one.running; relations_sent = sent before has is; lent = lent before has may taken.1 }, adds before has is);
 } where
   commits : List Published
   commits = published_by_record old.selection old.start r one.ready
@@ -213,24 +213,43 @@ parted [] i r is = let never : None ≡ Some r = is in cc
 parted (q ∷ rs) zero r is = let same : q ≡ r = cc in (rs, ap (λ p. p ∷ rs) same)
 parted (q ∷ rs) (suc i) r is = let more = parted rs i r is in (more.0, ap (λ l. q ∷ l) more.1)
 
--- a batch that stops at a record for which no chunk is left
-pub lacks_room : (clock : ℤ) (old mid stopped new : SenderState) (records : List (Arc Record Global)) (i : ℕ) (r : Record) → i < length records → slice_get (shared_records records) i ≡ Some r →
-    ReadAll clock old mid (shared_records (take i records)) → OutputUnchanged mid stopped → new.position ≡ stopped.position → ((count : ℕ) → HasChunks old count → HasChunks mid count) →
-    ((rs : List Record) (count : ℕ) → HasTaken mid.reorder rs → MayCome rs r.body → HasChunks mid count → LeavesNoRoom count rs r) → LacksRoom old new (shared_records records)
-lacks_room clock old mid stopped new records i r lt at front same position chunks none =
-    let taken = shared_take records i in
-    let parts = parted (shared_records records) i r at in
-    record {
+-- a batch that stops at a record: those before it have been read, and it may come
+module _ (clock : ℤ) (old mid : SenderState) (records : List (Arc Record Global)) (i : ℕ) (r : Record) (lt : i < length records) (at : slice_get (shared_records records) i ≡ Some r) (front : ReadAll clock old mid (shared_records (take i records))) where
+  abbrev all : List Record
+  all = shared_records records
+
+  stops : (before : List Record) → HasRead old before → MayFollow before all → HasRead mid (before ++ take i all) × MayCome (before ++ take i all) r.body × StartsBehind (before ++ take i all) r
+  stops before has may =
+      let taken = shared_take records i in
+      let parts = parted all i r at in
+      let P : List Record → Type 0 = λ l. MayFollow before l in
+      let whole : MayFollow before (take i all ++ r ∷ parts.0) = subst P parts.1 may in
+      let Q : List Record → Type 0 = λ l. HasRead mid (before ++ l) in (
+        subst Q taken (front.after before has (subst P (sym taken) (MayFollow-front before (take i all) (r ∷ parts.0) whole))).0,
+        (MayFollow-back before (take i all) (r ∷ parts.0) whole).0,
+        (MayFollow-back before (take i all) (r ∷ parts.0) whole).1,
+      )
+
+  module _ (stopped new : SenderState) (same : OutputUnchanged mid stopped) (position : new.position ≡ stopped.position) (chunks : (count : ℕ) → HasChunks old count → HasChunks mid count) where
+    place : new.position ≡ end_of old.position (take i all)
+    place = position ∙ same.position ∙ front.position ∙ ap (end_of old.position) (shared_take records i)
+
+    -- for which no chunk is left
+    pub lacks_room : ((rs : List Record) (count : ℕ) → HasTaken mid.reorder rs → MayCome rs r.body → HasChunks mid count → LeavesNoRoom count rs r) → LacksRoom old new all
+    lacks_room none = record {
       count = i;
       next = r;
       is = at;
-      position = position ∙ same.position ∙ front.position ∙ ap (end_of old.position) taken;
-      room = λ before count has may held.
-          let P : List Record → Type 0 = λ l. MayFollow before l in
-          let all : MayFollow before (take i (shared_records records) ++ r ∷ parts.0) = subst P parts.1 may in
-          let Q : List Record → Type 0 = λ l. HasRead mid (before ++ l) in
-          let Front : List Record → Type 0 = λ l. MayFollow before l in
-          let read : HasRead mid (before ++ take i (shared_records records)) =
-          subst Q taken (front.after before has (subst Front (sym taken) (MayFollow-front before (take i (shared_records records)) (r ∷ parts.0) all))).0 in
-          none (before ++ take i (shared_records records)) count read.taken (MayFollow-back before (take i (shared_records records)) (r ∷ parts.0) all).0 (chunks count held);
+      position = place;
+      room = λ before count has may held. let s = stops before has may in none (before ++ take i all) count s.0.taken s.1 (chunks count held);
+    }
+
+    -- for which one may be left
+    pub has_room : ((rs : List Record) (count : ℕ) → mid.reorder.failed ≡ false → HasTaken mid.reorder rs → MayCome rs r.body → StartsBehind rs r → HasChunks mid count → LeavesNoRoom count rs r → ⊥) → HasRoom old new all
+    has_room some = record {
+      count = i;
+      next = r;
+      is = at;
+      position = place;
+      room = λ before count has may held none. let s = stops before has may in some (before ++ take i all) count s.0.running s.0.taken s.1 s.2 (chunks count held) none;
     }

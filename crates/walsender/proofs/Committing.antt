@@ -1,7 +1,9 @@
 -- A transaction that waits after all others, and one that doesn't come to wait.
-use Rattle.std.proofs.Common.{◌≡◌, ℕ, ℤ, ◌+◌, List, [], ◌∷◌, ◌++◌, Ok, Err, length, map, inl, sym, ap, subst, ◌∙◌, append_assoc, append-nil, arith}
+use Rattle.std.proofs.Common.{◌≡◌, ◌<◌, ℕ, ℤ, ◌+◌, List, [], ◌∷◌, ◌++◌, Ok, Err, length, map, inl, sym, ap, subst, ◌∙◌, append_assoc, append-nil, arith}
 use Rattle.std.specs.Prelude.{reverse}
+use Rattle.std.specs.List.{AllByRecursion}
 use Rattle.std.specs.declared.alloc.AllocError.{AllocError}
+use Rattle.pgoutput.proofs.Lists.{all_of_both}
 use Rattle.std.proofs.lemmas.List.{length-append, map-append}
 use Rattle.publication.specs.Publications.{PublicationSet}
 use Rattle.publication.specs.Selection.{relation}
@@ -64,8 +66,8 @@ module _ (selection : PublicationSet) (s : ReorderState) (o o' : Outgoing) (read
       subst (λ (l : List ℕ). AreWithin (length l) (o.waiting.items ++ last ∷ [])) (sym q.made)
       (within_last (length (o.made.items ++ begin)) o.waiting.items last within_begun (omega (arith, in_place)))
 
-  queued_good : AreLentIn s (ready_states o.waiting.items ++ ready ∷ []) → IsOutgoing selection s o'
-  queued_good lent = record {
+  queued_good : AreLentIn s (ready_states o.waiting.items ++ ready ∷ []) → 0 < length ready.places → IsOutgoing selection s o'
+  queued_good lent some = record {
     lent = subst (AreLentIn s) (sym waiting_readies) lent;
     within = subst (λ (ws : List CommittedTransaction). AreWithin (length o'.made.items) ws) (sym q.waiting) within_all;
     placed = ap places q.waiting ∙ places_last o.waiting.items last ∙ ap (λ (n : ℕ). n + q.before) good.placed ∙ sym q.placed;
@@ -74,6 +76,7 @@ module _ (selection : PublicationSet) (s : ReorderState) (o o' : Outgoing) (read
     room = inl (room_made o o' good.from good.to q.frames good.room q.room);
     sent = subst (λ (l : List ℕ). AreSelected selection (reverse l)) (sym q.sent) good.sent;
     capacity = λ any. q.capacity;
+    some = subst (AllByRecursion (λ (r : ReadyState). 0 < length r.places)) (sym waiting_readies) (all_of_both (λ (r : ReadyState). 0 < length r.places) (ready_states o.waiting.items) (ready ∷ []) good.some (some, tt));
   }
 
   bytes_queued : bytes_behind selection s.strands.pool sent (o.made.items ++ begin) (o.waiting.items ++ last ∷ [])
@@ -105,8 +108,8 @@ module _ (selection : PublicationSet) (s : ReorderState) (o o' : Outgoing) (read
   pub lent_queued : lent_of s o' ≡ lent_of s o ++ lent_with (ready_chunks s.strands.pool.arena ready) published ∷ []
   lent_queued = ap (map (lent_in s.strands.pool.arena)) q.waiting ∙ map-append (lent_in s.strands.pool.arena) o.waiting.items (last ∷ [])
 
-  pub queue_grows : AreLentIn s (ready_states o.waiting.items ++ ready ∷ []) → Grows selection clock (published ∷ []) (Ok tt) s s o o'
-  queue_grows lent = record { good = queued_good lent; held = held_queued; sent = sent_queued; err = tt }
+  pub queue_grows : AreLentIn s (ready_states o.waiting.items ++ ready ∷ []) → 0 < length ready.places → Grows selection clock (published ∷ []) (Ok tt) s s o o'
+  queue_grows lent some = record { good = queued_good lent some; held = held_queued; sent = sent_queued; err = tt }
 
   pub queue_taken : (rs : List Record) → AreLentIn s (ready_states o.waiting.items ++ ready ∷ []) → HasTaken s rs → HasTaken (settled_of s o') rs
   queue_taken rs lent taken = taken_settled s (ready_states o'.waiting.items) rs (subst (AreLentIn s) (sym waiting_readies) lent) taken

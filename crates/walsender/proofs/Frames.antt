@@ -6,10 +6,11 @@ use Rattle.std.proofs.Math.Seq.{take-add, take-append-add}
 use Rattle.std.proofs.lemmas.List.{drop-append-le, drop-drop, drop_all, drop-take, length-append, length-drop, length-map, length-take-le, take-append-drop, take-take}
 use Rattle.std.proofs.lemmas.Slice.{drop-put_mid, take-put_mid}
 use borrow.Rule.Slice.PartMut.{put_mid}
+use Rattle.std.specs.List.{AllByRecursion}
 use Rattle.publication.specs.Publications.{PublicationSet}
 use Rattle.publication.specs.Selection.{selected_oids}
 use Rattle.reorder.specs.Pool.{PoolState}
-use Rattle.reorder.specs.Ready.{ready_entries}
+use Rattle.reorder.specs.Ready.{ReadyState, ready_entries}
 use Rattle.reorder.specs.Settled.{AreLentIn, after_giving_all_back, after_giving_back}
 use Rattle.reorder.specs.Taking.{ReorderState}
 use Rattle.reorder.proofs.Filling.{chunks_each_given_back}
@@ -168,6 +169,7 @@ module _ (selection : PublicationSet) (s : ReorderState) (o o' : Outgoing) (more
       room = inl room;
       sent = selected;
       capacity = capacity;
+      some = subst (AllByRecursion (λ (r : ReadyState). 0 < length r.places)) (sym ready) good.some;
     };
     held = held_as_before behind;
     sent = sent;
@@ -288,6 +290,7 @@ first_over selection s s' o o' w good is none over room comes back made placed r
         room = inl (comes.size ∙ room);
         sent = subst (AreSelected selection) (sym sent_is) good.sent;
         capacity = λ more. subst (λ (r : _). length (selected_oids selection) ≤ vec_capacity r) (sym relations) (good.capacity (subst (λ (l : List CommittedTransaction). 0 < length l) (sym is) (omega arith)));
+        some = (subst (λ (l : List CommittedTransaction). AllByRecursion (λ (r : ReadyState). 0 < length r.places) (ready_states l)) is good.some).1;
       };
       held =
           ap (λ (l : List ℕ). l ++ (frames_left o' ++ held_behind selection s' o')) comes.front

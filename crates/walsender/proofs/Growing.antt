@@ -1,10 +1,12 @@
 -- What the fields of what is on its way out do to all that is held.
 use Rattle.std.proofs.Common.{◌≡◌, ◌<◌, ◌≤◌, ℕ, ◌+◌, ◌-◌, List, [], ◌++◌, Result, Ok, Err, OnOk, drop, length, map, take, sym, ap, subst, ◌∙◌, append_assoc, arith}
 use Rattle.std.specs.Prelude.{OnErr, reverse}
+use Rattle.std.specs.List.{AllByRecursion}
 use Rattle.std.specs.declared.alloc.AllocError.{AllocError}
 use Rattle.std.proofs.Common.{⊎_elim, inl, inr}
 use Rattle.std.proofs.lemmas.List.{length-append}
 use Rattle.publication.specs.Publications.{PublicationSet}
+use Rattle.reorder.specs.Ready.{ReadyState}
 use Rattle.reorder.specs.Settled.{AreLentIn, after_giving_all_back}
 use Rattle.reorder.specs.Taking.{ReorderState}
 use Rattle.walsender.specs.Waiting.{AreSelected, AreWithin, bytes_behind, places, ready_states, sent_behind}
@@ -81,6 +83,7 @@ module _ (selection : PublicationSet) (s : ReorderState) (o o' : Outgoing) (good
     room = room;
     sent = subst (λ (l : List ℕ). AreSelected selection (reverse l)) (sym rest.sent) good.sent;
     capacity = λ some. let low = good.capacity (subst (λ (ws : List CommittedTransaction). 0 < length ws) rest.waiting some) in omega (arith, low, rest.capacity);
+    some = subst (λ (ws : List CommittedTransaction). AllByRecursion (λ (ready : ReadyState). 0 < length ready.places) (ready_states ws)) (sym rest.waiting) good.some;
   }
 
   pub stays : o'.made.items ≡ o.made.items → IsOutgoing selection s o' × (held_of selection s o' ≡ held_of selection s o)

@@ -66,7 +66,7 @@ keeps : (selection : PublicationSet) (s s' : ReorderState) (o : Outgoing) → Is
     → map (ready_entries s'.strands.pool) (ready_states o.waiting.items) ≡ map (ready_entries s.strands.pool) (ready_states o.waiting.items)
     → map (ready_chunks s'.strands.pool.arena) (ready_states o.waiting.items) ≡ map (ready_chunks s.strands.pool.arena) (ready_states o.waiting.items) → Keeps selection s s' o
 keeps selection s s' o good lent same chunks = record {
-  good = record { lent = lent; within = good.within; placed = good.placed; from = good.from; to = good.to; room = good.room; sent = good.sent; capacity = good.capacity };
+  good = record { lent = lent; within = good.within; placed = good.placed; from = good.from; to = good.to; room = good.room; sent = good.sent; capacity = good.capacity; some = good.some };
   held = ap (λ (l : List ℕ). o.front.items ++ (frames_left o ++ l)) (bytes_same selection s.strands.pool s'.strands.pool (reverse o.relations_sent.items) o.made.items o.waiting.items same);
   sent = sent_same selection s.strands.pool s'.strands.pool (reverse o.relations_sent.items) o.waiting.items same;
   lent = lents_same s.strands.pool.arena s'.strands.pool.arena o.waiting.items chunks;

@@ -42,7 +42,7 @@ module _ (selection : PublicationSet) (s : ReorderState) (o o' : Outgoing) (good
   -- bytes of the front are gone
   pub front_gone : (count : ℕ) → count ≤ length o.front.items → o'.front.items ≡ drop count o.front.items → o' ≡ record o { front = o'.front } → MovesOut selection count s s o o'
   front_gone count low items same = subst (λ (x : Outgoing). MovesOut selection count s s o x) (sym same) record {
-    good = record { lent = good.lent; within = good.within; placed = good.placed; from = good.from; to = good.to; room = good.room; sent = good.sent; capacity = good.capacity };
+    good = record { lent = good.lent; within = good.within; placed = good.placed; from = good.from; to = good.to; room = good.room; sent = good.sent; capacity = good.capacity; some = good.some };
     held = ap (λ (l : List ℕ). l ++ (frames_left o ++ held_behind selection s o)) items ∙ sym (drop-append-le count o.front.items (frames_left o ++ held_behind selection s o) low);
     sent = refl;
     settled = refl;
@@ -62,7 +62,7 @@ module _ (selection : PublicationSet) (s : ReorderState) (o o' : Outgoing) (good
   -- bytes of the frames are gone, where there is nothing at the front
   pub frames_gone : (count : ℕ) → count ≤ o.to - o.from → o.front.items ≡ [] → o' ≡ record o { from = o.from + count } → MovesOut selection count s s o o'
   frames_gone count low none same = subst (λ (x : Outgoing). MovesOut selection count s s o x) (sym same) record {
-    good = record { lent = good.lent; within = good.within; placed = good.placed; from = (let from = good.from in omega (arith, from, low)); to = good.to; room = good.room; sent = good.sent; capacity = good.capacity };
+    good = record { lent = good.lent; within = good.within; placed = good.placed; from = (let from = good.from in omega (arith, from, low)); to = good.to; room = good.room; sent = good.sent; capacity = good.capacity; some = good.some };
     held =
         ap (λ (l : List ℕ). l ++ (take (o.to - (o.from + count)) (drop (o.from + count) o.frames.items) ++ held_behind selection s o)) none
         ∙ ap (λ (l : List ℕ). l ++ held_behind selection s o) (left_gone count low)

@@ -180,7 +180,7 @@ kept_alive log place clock ask written s serving fits lt =
         stream = stream_moved (relation s.selection) ((written ++ s.held) ++ word) (written ++ (s.held ++ word)) all s.position
             (stream_kept_alive (relation s.selection) clock ask (written ++ s.held) all s.position t.stream lt fits) (sym (append_assoc written s.held word));
       };
-      running = λ still. let r = serving.running still in (r.0, record { taken = r.1.taken; relations_sent = r.1.relations_sent; lent = r.1.lent });
+      running = λ still. let r = serving.running still in (r.0, record { taken = r.1.taken; running = r.1.running; relations_sent = r.1.relations_sent; lent = r.1.lent });
     }
 
 pub kept_on : (log : List Record) (place : ℕ) (clock : ℤ) (ask : Bool) (written : List ℕ) (s new : SenderState) (r : Result (Unit {0}) SendFault) → FitsSigned w64 clock
@@ -207,7 +207,7 @@ given log place written bytes s new parts rest last serving =
       };
       running = λ still.
           let r = serving.running still in
-          (r.0, record { taken = r.1.taken; relations_sent = r.1.relations_sent; lent = last_then (sent_transactions s.selection (drop serving.from (take place log)) s.start) s.lent new.lent r.1.lent last });
+          (r.0, record { taken = r.1.taken; running = r.1.running; relations_sent = r.1.relations_sent; lent = last_then (sent_transactions s.selection (drop serving.from (take place log)) s.start) s.lent new.lent r.1.lent last });
     })
 
 -- bytes from the front of what was held are moved out
@@ -230,7 +230,7 @@ kept_shorter log place written s new is last serving =
       streaming = record { within = t.within; at = t.at; stream = t.stream };
       running = λ still.
           let r = serving.running still in
-          (r.0, record { taken = r.1.taken; relations_sent = r.1.relations_sent; lent = last_then (sent_transactions s.selection (drop serving.from (take place log)) s.start) s.lent new.lent r.1.lent last });
+          (r.0, record { taken = r.1.taken; running = r.1.running; relations_sent = r.1.relations_sent; lent = last_then (sent_transactions s.selection (drop serving.from (take place log)) s.start) s.lent new.lent r.1.lent last });
     })
 
 pub err_then : {A E : Type 0} (P Q : Type 0) (r : Result A E) → (P → Q) → OnErr r P → OnErr r Q

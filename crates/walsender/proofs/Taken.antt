@@ -1,5 +1,5 @@
 -- A record that is taken while committed transactions wait.
-use Rattle.std.proofs.Common.{◌≡◌, ℕ, ℤ, Bool, List, [], ◌∷◌, ◌++◌, Option, Ok, refl, ap, ◌∙◌}
+use Rattle.std.proofs.Common.{◌≡◌, ℕ, ℤ, Bool, false, List, [], ◌∷◌, ◌++◌, Option, None, Ok, refl, ap, ◌∙◌}
 use Rattle.std.specs.List.{AllByRecursion}
 use Rattle.wal.specs.declared.record.Record.{Record}
 use Rattle.wal.specs.Log.{Entry}
@@ -14,7 +14,7 @@ use Rattle.reorder.specs.declared.ready.Step.TheVariants as steps
 use Rattle.reorder.specs.Settled.{AreLentIn, FillsReady, after_giving_all_back}
 use Rattle.reorder.specs.Taking.{HasTaken, IsStepApart, IsStepHeld, MayCome, ReorderState, Takes, readied_changes}
 use Rattle.reorder.proofs.Filling.{tidy_more, tidy_quiet}
-use Rattle.reorder.proofs.Settling.{entries_lent, lent_more, settled_taken}
+use Rattle.reorder.proofs.Settling.{entries_lent, failed_settled, lent_more, settled_taken}
 use Rattle.walsender.specs.Waiting.{ready_states, ready_states_with}
 use Rattle.walsender.specs.Lent.{LentTransaction}
 use Rattle.walsender.specs.Outgoing.{Grows, held_of, lent_by_step, lent_of, sent_of, settled_of}
@@ -43,20 +43,26 @@ pub tidy_step : (old new : ReorderState) (ws : List ReadyState) (step : Step) (c
 tidy_step old new ws steps.Quiet count before after takes tidy = tidy_quiet old new ws count before after takes tidy
 tidy_step old new ws (steps.Ready ready) count before after takes tidy = tidy_more old new ws ready count before after takes tidy
 
+-- what makes nothing ready is quiet
+pub quiet_of : (s : ReorderState) (step : Step) → readied_changes s step ≡ None → step ≡ steps.Quiet
+quiet_of s steps.Quiet none = refl
+quiet_of s (steps.Ready ready) none = let never = none in cc
+
 -- ---- a record that was read
 
 pub read_one : (clock : ℤ) (selection : PublicationSet) (start position end : ℕ) (failed : Bool) (r : Record) (old mid new : ReorderState) (o o' : Outgoing) (step : Step) → AreLentIn old (ready_states o.waiting.items) → Keeps selection old mid o
     → Takes old mid r (readied_changes mid step) → end ≡ r.end → Grows selection clock (published_by_record selection start r (readied_changes mid step)) (Ok tt) mid new o o'
     → AllByRecursion (FitsPublished (relation selection)) (published_by_record selection start r (readied_changes mid step)) → ((rs : List Record) → HasTaken mid rs → HasTaken (settled_of new o') rs)
     → ((rs : List Record) → HasTaken old rs → MayCome rs r.body → FillsReady mid step)
-    → lent_of new o' ≡ lent_of mid o ++ lent_by_step (published_by_record selection start r (readied_changes mid step)) mid step
+    → lent_of new o' ≡ lent_of mid o ++ lent_by_step (published_by_record selection start r (readied_changes mid step)) mid step → new.failed ≡ false
     → ReadOne clock (state selection start position failed (held_of selection old o) (sent_of selection old o) (settled_of old o) (lent_of old o)) (state selection start end failed (held_of selection new o') (sent_of selection new o') (settled_of new o') (lent_of new o')) r
-read_one clock selection start position end failed r old mid new o o' step are kept takes is grows fit taken fills lents =
+read_one clock selection start position end failed r old mid new o o' step are kept takes is grows fit taken fills lents running =
     let ready = readied_changes mid step in
     let ts = published_by_record selection start r ready in
     record {
       ready = ready;
       takes = takes_settled old mid (settled_of new o') (ready_states o.waiting.items) r ready are takes taken;
+      running = failed_settled new (ready_states o'.waiting.items) ∙ running;
       selection = refl;
       start = refl;
       position = is;

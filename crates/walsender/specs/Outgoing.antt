@@ -1,5 +1,6 @@
 -- What is on its way out, as one list of bytes.
 use Rattle.std.specs.Prelude.{◌≡◌, ◌⊎◌, ◌<◌, ◌≤◌, ◌-◌, ◌+◌, ℕ, ℤ, List, [], ◌∷◌, ◌++◌, OnErr, OnOk, Result, drop, length, map, reverse, take, vec_capacity}
+use Rattle.std.specs.List.{AllByRecursion}
 use Rattle.std.specs.declared.alloc.AllocError.{AllocError}
 use Rattle.publication.specs.Publications.{PublicationSet}
 use Rattle.publication.specs.Selection.{relation, selected_oids}
@@ -66,7 +67,7 @@ abbrev pub HasRoom : Outgoing → Type 0
 HasRoom o = (length o.frames.items ≡ FRAMES_LENGTH) ⊎ ((length o.frames.items ≡ 0) × (o.made.items ≡ []) × (o.waiting.items ≡ []))
 
 -- What holds between two calls: the transactions that wait lie in the arena, each has its place among the bytes that are made, there is
--- room for frames where any are to be made, and for the OIDs of all Relations that are to be sent.
+-- room for frames where any are to be made, and for the OIDs of all Relations that are to be sent. Each of those transactions has a change.
 pub record IsOutgoing (selection : PublicationSet) (s : ReorderState) (o : Outgoing) : Type 0 where
   pub lent : AreLentIn s (ready_states o.waiting.items)
   pub within : AreWithin (length o.made.items) o.waiting.items
@@ -76,6 +77,7 @@ pub record IsOutgoing (selection : PublicationSet) (s : ReorderState) (o : Outgo
   pub room : HasRoom o
   pub sent : AreSelected selection (reverse o.relations_sent.items)
   pub capacity : 0 < length o.waiting.items → length (selected_oids selection) ≤ vec_capacity o.relations_sent
+  pub some : AllByRecursion (λ (ready : ReadyState). 0 < length ready.places) (ready_states o.waiting.items)
 
 -- The same is held, and will have been sent, by other means.
 pub record HoldsSame (selection : PublicationSet) (s s' : ReorderState) (o o' : Outgoing) : Type 0 where
@@ -156,3 +158,7 @@ pub record MovesOut (selection : PublicationSet) (count : ℕ) (s s' : ReorderSt
 abbrev pub HasFreeChunk : ReorderState → Type 0
 HasFreeChunk s =
     (rs : List Record) (ws : List ReadyState) (count : ℕ) → HasTaken s rs → AreLentIn s ws → IsTidy count [] (after_giving_all_back s ws).strands → live_chunks rs + lent_chunks s ws < count
+
+-- Whatever was taken, the transactions in progress leave a chunk.
+abbrev pub LeavesChunk : ReorderState → Outgoing → Type 0
+LeavesChunk s o = (rs : List Record) (count : ℕ) → HasTaken (settled_of s o) rs → IsTidy count [] (settled_of s o).strands → live_chunks rs < count

@@ -37,6 +37,7 @@ MayFollow before (r ∷ rs) = MayCome before r.body × StartsBehind before r × 
 -- The sender is as these records, and no others, leave one.
 pub record HasRead (s : SenderState) (rs : List Record) : Type 0 where
   pub taken : HasTaken s.reorder rs
+  pub running : s.reorder.failed ≡ false
   pub relations_sent : s.relations_sent ≡ relations_sent_through [] (published_transactions s.selection rs s.start)
   pub lent : AreLastOf s.lent (sent_transactions s.selection rs s.start)
 
@@ -94,6 +95,15 @@ pub record LacksRoom (old new : SenderState) (rs : List Record) : Type 0 where
   pub position : new.position ≡ end_of old.position (take count rs)
   pub room : (before : List Record) (chunks : ℕ) → HasRead old before → MayFollow before rs → HasChunks old chunks → LeavesNoRoom chunks (before ++ take count rs) next
 
+-- After those of these records that were read, which the position tells, stands none for whose change the transactions in progress left no
+-- chunk.
+pub record HasRoom (old new : SenderState) (rs : List Record) : Type 0 where
+  pub count : ℕ
+  pub next : Record
+  pub is : slice_get rs count ≡ Some next
+  pub position : new.position ≡ end_of old.position (take count rs)
+  pub room : (before : List Record) (chunks : ℕ) → HasRead old before → MayFollow before rs → HasChunks old chunks → LeavesNoRoom chunks (before ++ take count rs) next → ⊥
+
 -- ONE RECORD, NOT NEEDED BY A READER OF `feed`
 
 -- the transaction that a record with these changes commits, if it starts at the start position s or later
@@ -125,6 +135,7 @@ sent_by_record selection s r (Some entries) = map (lent_with (transaction_chunks
 pub record ReadOne (clock : ℤ) (old new : SenderState) (r : Record) : Type 0 where
   pub ready : Option (List Entry)
   pub takes : Takes old.reorder new.reorder r ready
+  pub running : new.reorder.failed ≡ false
   pub selection : new.selection ≡ old.selection
   pub start : new.start ≡ old.start
   pub position : new.position ≡ r.end

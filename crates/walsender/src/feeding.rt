@@ -1,11 +1,11 @@
 //! Reading records one by one.
 
-ghost use Rattle.std.specs.Prelude.{◌≡◌, ℕ, List, false, Err, IfErr, OnErr, OnOk};
+ghost use Rattle.std.specs.Prelude.{◌≡◌, ◌≢◌, ℕ, List, false, Err, IfErr, OnErr, OnOk};
 ghost use Rattle.wal.specs.Records.{shared_records};
 ghost use Rattle.reorder.specs.Chunks.{LeavesNoRoom};
-ghost use Rattle.reorder.specs.Taking.{HasTaken, MayCome};
+ghost use Rattle.reorder.specs.Taking.{HasTaken, MayCome, StartsBehind};
 ghost use Rattle.wal.specs.declared.record.Record.{Record as Logged};
-ghost use Rattle.walsender.specs.Sending.{HasChunks, IsOut, LacksRoom, ReadAll, RanOut, OutputUnchanged, ReadOne};
+ghost use Rattle.walsender.specs.Sending.{HasChunks, HasRoom, IsOut, LacksRoom, ReadAll, RanOut, OutputUnchanged, ReadOne};
 
 use crate::fault::SendFault;
 use crate::sender::Sender;
@@ -22,6 +22,8 @@ impl Sender {
         ensures err { IfErr result IsOut }
         ensures room { result ≡ Err SendFault.ArenaFull →
             LacksRoom self.old self.new (shared_records records.now) }
+        ensures left { result ≡ Err SendFault.Memory →
+            HasRoom self.old self.new (shared_records records.now) }
         ensures chunks { OnOk result
             ((count : ℕ) → HasChunks self.old count → HasChunks self.new count) }
     {
@@ -44,14 +46,17 @@ impl Sender {
         ensures room { result ≡ Err SendFault.ArenaFull → (rs : List Logged) (count : ℕ) →
             HasTaken self.old.reorder rs → MayCome rs next.now.value.body →
             HasChunks self.old count → LeavesNoRoom count rs next.now.value }
+        ensures left { result ≡ Err SendFault.Memory → (rs : List Logged) (count : ℕ) →
+            self.old.reorder.failed ≡ false → HasTaken self.old.reorder rs →
+            MayCome rs next.now.value.body → StartsBehind rs next.now.value →
+            HasChunks self.old count → LeavesNoRoom count rs next.now.value → ⊥ }
         ensures chunks { OnOk result
             ((count : ℕ) → HasChunks self.old count → HasChunks self.new count) }
         ensures failed { self.new.failed ≡ self.old.failed }
     {
         self.outgoing.give_way(&self.selection, &mut self.reorder)?;
         match self.reorder.take(next) {
-            Err(ReorderFault::Full) => return Err(SendFault::ArenaFull),
-            Err(_) => return Err(SendFault::Memory),
+            Err(fault) => return Err(refusal_of(fault)),
             Ok(step) => self.outgoing.add_record(
                 &self.selection,
                 self.start,
@@ -64,5 +69,17 @@ impl Sender {
         }
         self.position = next.end;
         Ok(())
+    }
+}
+
+/// What a regrouping's refusal comes to. One that failed before has failed its sender.
+fn refusal_of(fault: ReorderFault) -> SendFault
+    ensures out { IsOut result }
+    ensures full { result ≡ SendFault.ArenaFull → fault ≡ ReorderFault.Full }
+    ensures memory { result ≡ SendFault.Memory → fault ≢ ReorderFault.Full }
+{
+    match fault {
+        ReorderFault::Full => SendFault::ArenaFull,
+        ReorderFault::Memory | ReorderFault::Failed => SendFault::Memory,
     }
 }

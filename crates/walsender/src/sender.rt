@@ -6,7 +6,7 @@ ghost use Rattle.wal.specs.Records.{shared_records};
 ghost use Rattle.pgoutput.specs.Words.{word_bytes};
 ghost use Rattle.pgoutput.specs.Items.{keepalive_word};
 ghost use Rattle.walsender.specs.Lent.{AreLastOf};
-ghost use Rattle.walsender.specs.Sending.{HasChunks, HasRead, LacksRoom, LeavesChunks, ReadAll, RanOut};
+ghost use Rattle.walsender.specs.Sending.{HasChunks, HasRead, HasRoom, LacksRoom, LeavesChunks, ReadAll, RanOut};
 ghost use Rattle.wal.specs.declared.record.Record.{Record as Logged};
 
 use crate::ended::Ended;
@@ -114,6 +114,8 @@ impl Sender {
             RanOut clock self.old self.new (shared_records records.now) }
         ensures room { result ≡ Err SendFault.ArenaFull →
             LacksRoom self.old self.new (shared_records records.now) }
+        ensures left { result ≡ Err SendFault.Memory →
+            HasRoom self.old self.new (shared_records records.now) }
         ensures chunks { OnOk result
             ((count : ℕ) → HasChunks self.old count → HasChunks self.new count) }
         ensures memory { result ≡ Err SendFault.Memory →

@@ -1,11 +1,14 @@
 //! What a commit publishes, change by change (PostgreSQL 15, 55.5.3), straight from where the changes lie.
 
-ghost use Rattle.std.specs.Prelude.{◌≡◌, ◌+◌, ◌<◌, ◌≤◌, ◌==◌, ◌^◌, ◌++◌, ◌∷◌, [], None, FitsSigned, IfOk, IfSome, MatchBool, OnErr, OnOk, Some, drop, length, map, not, vec_len};
+ghost use Rattle.std.specs.Prelude.{◌≡◌, ◌+◌, ◌<◌, ◌≤◌, ◌==◌, ◌^◌, ◌++◌, ◌∷◌, [], ℕ, None, FitsSigned, IfOk, IfSome, IsOk, MatchBool, OnErr, OnOk, Some, drop, length, map, not, true, vec_len};
 ghost use Rattle.std.specs.Int.{w64};
 ghost use Rattle.std.specs.List.{AllByRecursion};
 ghost use Rattle.publication.specs.Selection.{relation};
 ghost use Rattle.pgoutput.specs.Items.{FitsPublished};
+ghost use Rattle.tables.specs.declared.changes.change.Change.{Change};
+ghost use Rattle.wal.specs.declared.record.Body.TheVariants.{Change as Changed};
 ghost use Rattle.reorder.specs.Ready.{IsReadyIn, ready_entries};
+ghost use Rattle.reorder.specs.declared.ready.Step.TheVariants as steps;
 ghost use Rattle.reorder.specs.Settled.{AreLentIn, ready_chunks};
 ghost use Rattle.reorder.specs.Taking.{ReorderState, readied_changes};
 ghost use Rattle.walsender.specs.Published.{published_changes, published_note, published_with};
@@ -54,6 +57,9 @@ impl Outgoing {
             ++ lent_by_step
             (published_by_record selection.now start next.now (readied_changes reorder.old step))
             reorder.old step) }
+        ensures running { reorder.new.failed ≡ reorder.old.failed }
+        ensures change { (xid : ℕ) (change : Change) → next.now.body ≡ Changed xid change →
+            step ≡ steps.Quiet → IsOk result }
     {
         match step {
             Step::Quiet => self.add_note(selection, start, next, clock, room),
@@ -78,6 +84,8 @@ impl Outgoing {
             (AllByRecursion (FitsPublished (relation selection.now))
             (published_by_record selection.now start next.now None)) }
         ensures waiting { self.new.waiting.items ≡ self.old.waiting.items }
+        ensures change { (xid : ℕ) (change : Change) → next.now.body ≡ Changed xid change →
+            IsOk result }
     {
         let Body::Note(note) = &next.body else {
             return Ok(());
@@ -143,6 +151,7 @@ impl Outgoing {
             ++ map (lent_with (ready_chunks reorder.old.strands.pool.arena ready))
             (published_by_record selection.now start next.now
             (Some (ready_entries reorder.old.strands.pool ready)))) }
+        ensures running { reorder.new.failed ≡ reorder.old.failed }
     {
         match judge(selection, start, next, reorder, &mut ready) {
             Some(header) => self.queue(selection, reorder, ready, header, clock),
@@ -164,6 +173,7 @@ impl Outgoing {
     ) -> Result<(), AllocError>
         requires good { IsOutgoing selection.now reorder.old self.old }
         requires lent { AreLentIn reorder.old (ready_states self.old.waiting.items ++ ready ∷ []) }
+        requires some { 0 < length ready.places }
         ensures grows { let entries = ready_entries reorder.old.strands.pool ready in
             Grows selection.now clock (published_with selection.now entries header ∷ []) result
             reorder.old reorder.new self.old self.new }
@@ -176,6 +186,7 @@ impl Outgoing {
             ++ lent_with (ready_chunks reorder.old.strands.pool.arena ready)
             (published_with selection.now (ready_entries reorder.old.strands.pool ready) header)
             ∷ []) }
+        ensures running { reorder.new.failed ≡ reorder.old.failed }
     {
         match self.commit(selection, ready, header, clock) {
             Ok(()) => Ok(()),
@@ -201,6 +212,7 @@ fn judge(
     ensures fit { AllByRecursion (FitsPublished (relation selection.now))
         (published_by_record selection.now start next.now
         (Some (ready_entries reorder.now.strands.pool ready.old))) }
+    ensures some { IfSome result (λ _. 0 < length ready.old.places) }
     ensures ready { ready.new ≡ ready.old }
 {
     selection.messages_fit();
@@ -220,6 +232,7 @@ fn header_of(
         (ready_entries reorder.now.strands.pool ready.old) result }
     ensures numbers { IfSome result
         (λ h. (h.start < 2 ^ 64) × (h.end < 2 ^ 64) × FitsSigned w64 h.time × (h.xid < 2 ^ 32)) }
+    ensures some { IfSome result (λ _. 0 < length ready.old.places) }
     ensures ready { ready.new ≡ ready.old }
 {
     let Body::Commit(xid, time) = next.body else {
@@ -242,6 +255,7 @@ fn has_message(selection: &Selection, reorder: &Reorder, ready: &mut CommittedCh
         (length
         (published_changes selection.now (ready_entries reorder.now.strands.pool ready.old))
         == 0) }
+    ensures some { result ≡ true → 0 < length ready.old.places }
     ensures ready { ready.new ≡ ready.old }
 {
     for k in 0..ready.count() {

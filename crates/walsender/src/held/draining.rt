@@ -1,7 +1,7 @@
 //! Bytes of what is held, moved out.
 
 ghost use Rattle.std.specs.Prelude.{◌≡◌, ◌⊎◌, ◌-◌, ◌+◌, ◌<◌, ◌≤◌, ◌++◌, [], IfOk, MatchBool, OnErr, OnOk, drop, length, min, take};
-ghost use Rattle.walsender.specs.Outgoing.{HasFreeChunk, HoldsSame, IsOutgoing, MovesOut, frames_left, held_of};
+ghost use Rattle.walsender.specs.Outgoing.{HasFreeChunk, HoldsSame, IsOutgoing, LeavesChunk, MovesOut, frames_left, held_of};
 
 use crate::held::outgoing::Outgoing;
 use bytes::{BufMut, BytesMut};
@@ -98,6 +98,7 @@ impl Outgoing {
         requires { IsOutgoing selection.now reorder.old self.old }
         ensures same { HoldsSame selection.now reorder.old reorder.new self.old self.new }
         ensures free { OnOk result ((self.new.waiting.items ≡ []) ⊎ HasFreeChunk reorder.new) }
+        ensures left { OnErr result (LeavesChunk reorder.old self.old) }
     {
         while !self.waiting.is_empty() && reorder.free_chunks() == 0 {
             self.gather_frames(selection, reorder)?;

@@ -4,7 +4,7 @@ use Rattle.std.proofs.lemmas.Int.{to_z-of_z}
 use Rattle.wal.specs.Records.{shared_records}
 use Rattle.walsender.specs.Outgoing.{held_of, lent_of, sent_of, settled_of}
 use Rattle.walsender.specs.Sending.{SenderState}
-use Rattle.walsender.proofs.Batches.{ReadOne-ReadAll, ReadAll-append, lacks_room, shared_at, shared_more, stopped_at}
+use Rattle.walsender.proofs.Batches.{ReadOne-ReadAll, ReadAll-append, has_room, lacks_room, shared_at, shared_more, stopped_at}
 use Rattle.walsender.proofs.States.{state}
 use Rattle.walsender.proofs.sender.Sender.take_all.Goals as goal
 
@@ -29,6 +29,14 @@ pub returns-in-Err-clause-room : goal.returns-in-Err-clause-room
 returns-in-Err-clause-room c = λ full.
     let i = c.self.inside in
     let new : SenderState = state i.selection i.start i.position true (held_of i.selection i.reorder i.outgoing) (sent_of i.selection i.reorder i.outgoing) (settled_of i.reorder i.outgoing) (lent_of i.reorder i.outgoing) in
-    lacks_room c.args.clock c.args.self.now c.loop-record.self c.take.new.self new c.args.records.now c.loop-record.record-index c.record-item.result.value (omega arith)
-    (shared_at c.args.records.now c.loop-record.record-index c.record-item.result (omega arith) c.record-item.is) (rw (to_z-of_z w64 c.args.clock c.ranges.clock) at c.loop-record.invariant.read) c.in-Err.ensures.err
-    (ap (λ (s : SenderState). s.position) c.self.view_is) c.loop-record.invariant.chunks (c.in-Err.ensures.room full)
+    lacks_room c.args.clock c.args.self.now c.loop-record.self c.args.records.now c.loop-record.record-index c.record-item.result.value (omega arith)
+    (shared_at c.args.records.now c.loop-record.record-index c.record-item.result (omega arith) c.record-item.is) (rw (to_z-of_z w64 c.args.clock c.ranges.clock) at c.loop-record.invariant.read)
+    c.take.new.self new c.in-Err.ensures.err (ap (λ (s : SenderState). s.position) c.self.view_is) c.loop-record.invariant.chunks (c.in-Err.ensures.room full)
+
+pub returns-in-Err-clause-left : goal.returns-in-Err-clause-left
+returns-in-Err-clause-left c = λ lacks.
+    let i = c.self.inside in
+    let new : SenderState = state i.selection i.start i.position true (held_of i.selection i.reorder i.outgoing) (sent_of i.selection i.reorder i.outgoing) (settled_of i.reorder i.outgoing) (lent_of i.reorder i.outgoing) in
+    has_room c.args.clock c.args.self.now c.loop-record.self c.args.records.now c.loop-record.record-index c.record-item.result.value (omega arith)
+    (shared_at c.args.records.now c.loop-record.record-index c.record-item.result (omega arith) c.record-item.is) (rw (to_z-of_z w64 c.args.clock c.ranges.clock) at c.loop-record.invariant.read)
+    c.take.new.self new c.in-Err.ensures.err (ap (λ (s : SenderState). s.position) c.self.view_is) c.loop-record.invariant.chunks (c.in-Err.ensures.left lacks)

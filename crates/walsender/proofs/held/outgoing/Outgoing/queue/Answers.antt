@@ -22,7 +22,7 @@ finish-requires c =
 pub returns-in-Ok-clause-grows : goal.returns-in-Ok-clause-grows
 returns-in-Ok-clause-grows c =
     let q = rw (to_z-of_z w64 c.args.clock c.ranges.clock) at c.in-Ok.ensures.ok in
-    queue_grows c.args.selection.now c.args.reorder.now c.args.self.now c.commit.new.self c.args.ready c.args.clock c.args.header c.requires.good q c.requires.lent
+    queue_grows c.args.selection.now c.args.reorder.now c.args.self.now c.commit.new.self c.args.ready c.args.clock c.args.header c.requires.good q c.requires.lent c.requires.some
 
 pub returns-in-Ok-clause-taken : goal.returns-in-Ok-clause-taken
 returns-in-Ok-clause-taken c = λ rs taken.
