@@ -26,7 +26,7 @@ use options::words::{Numbers, Words};
 use running::beginning::{begin_reading, begin_telling, begin_watching};
 use running::descriptors::open_standard;
 use running::ending::ListenerHandles;
-use running::host::Host;
+use running::host::{Host, Shared};
 use running::opening::opened;
 use running::serving::{Service, served};
 use scripting::{STANDARD_INPUT, Script, scripts_at};
@@ -55,10 +55,7 @@ where
         + Clock
         + RandomSource
         + Eprint
-        + Copy
-        + Send
-        + Sync
-        + 'static,
+        + Shared,
 {
     let arguments = arguments_of(rt).map_err(CommandFault::Words)?;
     run_called(rt, host, arguments.as_slice())

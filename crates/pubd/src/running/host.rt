@@ -6,6 +6,14 @@ use std::sync::Wait;
 use std::thread::Threads;
 use std::time::Clock;
 
+/// What each thread has a copy of, for as long as it runs.
+pub(crate) trait Shared: Copy + Send + Sync + 'static {}
+
+impl<R> Shared for R
+where
+    R: Copy + Send + Sync + 'static,
+{}
+
 /// Sockets, threads that outlive their caller, locks, the time, randomness and the standard error.
 pub(crate) trait Host: Net<Listener = TcpListener, Stream = TcpStream>
     + Threads
@@ -13,10 +21,7 @@ pub(crate) trait Host: Net<Listener = TcpListener, Stream = TcpStream>
     + Clock
     + RandomSource
     + Eprint
-    + Copy
-    + Send
-    + Sync
-    + 'static {}
+    + Shared {}
 
 impl<R> Host for R
 where
@@ -26,8 +31,5 @@ where
         + Clock
         + RandomSource
         + Eprint
-        + Copy
-        + Send
-        + Sync
-        + 'static,
+        + Shared,
 {}
