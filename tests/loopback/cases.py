@@ -90,6 +90,7 @@ from large import (
 )
 from link import Link
 from passwords import a_name_or_password_that_is_none_is_refused, a_password_becomes_the_line_of_its_user
+from printed_copies import a_copy_is_printed_as_one_transaction, cuts_and_kills_copy_each_row_once, what_a_copy_asks_for_has_to_be_there
 from proving import (
     a_password_is_proved_on_each_connection,
     a_password_stands_in_a_file,
@@ -433,6 +434,7 @@ LONG = [
     nobody_learns_of_users_by_time,
     cuts_and_kills_lose_and_repeat_nothing,
     cuts_and_kills_lose_and_repeat_no_message,
+    cuts_and_kills_copy_each_row_once,
     cuts_and_kills_lose_and_repeat_no_line_of_json,
     a_silent_server_is_asked_and_then_lost,
     an_end_takes_ten_seconds,
@@ -450,6 +452,8 @@ ALL = [
     a_start_ahead_of_its_slot_is_refused,
     a_copy_and_its_stream_have_each_row_once,
     what_cannot_be_copied_is_refused,
+    a_copy_is_printed_as_one_transaction,
+    what_a_copy_asks_for_has_to_be_there,
     a_client_sees_clocks_of_its_own_time,
     a_follower_tells_the_time_whatever_its_server_tells,
     nothing_is_lost_with_connections,

@@ -4,5 +4,6 @@ pub mod Deeds
 pub mod Given
 pub mod Going
 pub mod Lived
+pub mod CopiedValues
 pub mod Found
 pub mod TextLines

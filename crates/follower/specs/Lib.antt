@@ -1,3 +1,4 @@
+pub mod CopiedRows
 pub mod Found
 pub mod ResumePoint
 pub mod Lives

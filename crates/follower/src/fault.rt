@@ -1,4 +1,4 @@
-//! Why a stream was not followed to its end, K1 to K9.
+//! Why a stream was not followed to its end, K1 to K10.
 
 use crate::login::login_fault::LoginFault;
 use client::ClientFault;
@@ -6,7 +6,7 @@ use frames::{ErrorResponse, FrameFault};
 use message_lines::LineFault;
 use pqformat::Text;
 use scram::ServerFault;
-use std::alloc::AllocError;
+use std::alloc::{AllocError, AllocFailed};
 use std::{fmt, io};
 use thiserror::Error;
 
@@ -94,10 +94,19 @@ pub enum FollowFault {
     /// K9.
     #[error("K9: {0}")]
     Login(LoginFault),
+    /// K10. A copy is of publications that are there.
+    #[error("K10: there is no publication {0}")]
+    NoPublication(String),
 }
 
 impl From<AllocError> for FollowFault {
     fn from(_e: AllocError) -> FollowFault {
+        FollowFault::Client(ClientFault::Memory)
+    }
+}
+
+impl<T: Drop> From<AllocFailed<T>> for FollowFault {
+    fn from(_e: AllocFailed<T>) -> FollowFault {
         FollowFault::Client(ClientFault::Memory)
     }
 }

@@ -22,10 +22,12 @@ use std::time::Clock;
 #[derive(Drop)]
 pub struct Subscription {
     alloc: Global,
-    delivery: Delivery,
+    pub(crate) delivery: Delivery,
     /// The system whose transactions are printed, once it is known.
     system: Option<String>,
-    is_created: bool,
+    pub(crate) is_created: bool,
+    /// Whether a slot may be left of a copy that didn't come to its end.
+    pub(crate) has_left_slot: bool,
     /// Whether the server was asked for a sign of life, and nothing has come since.
     is_asked: bool,
 }
@@ -51,8 +53,14 @@ impl Subscription {
             delivery: Delivery::new(alloc, options, &kept.cut(), position, count),
             system,
             is_created: false,
+            has_left_slot: false,
             is_asked: false,
         }
+    }
+
+    /// A slot of the options' name is left of a copy that an earlier run didn't bring to its end: the next copy drops it first.
+    pub fn note_left_slot(&mut self) {
+        self.has_left_slot = true;
     }
 
     /// All that commits below it was printed.
@@ -68,9 +76,9 @@ impl Subscription {
 /// more is read, and where the server asks. Where a read of the socket gives up, the server is asked for a keepalive; where the
 /// next one does too, it is silent. After all of them stands the last line of the form, if it has one.
 ///
-/// Faults as of `follow`, and `OtherSystem` (K7) where the server is another system than before, or than the options say. Where the fault is a passing one
-/// (`FollowFault::is_passing`), the subscription goes on over another connection. Once all is printed, a connection that is lost is
-/// no fault.
+/// Faults as of `follow`, and `OtherSystem` (K7) where the server is another system than before, or than the options say. Where the
+/// fault is a passing one (`FollowFault::is_passing`), the subscription goes on over another connection. Once all is printed, a
+/// connection that is lost is no fault.
 pub fn resume<R: Wait + Clock + RandomSource, S: Peer, W: Output>(
     rt: &R,
     alloc: Global,
@@ -115,7 +123,7 @@ impl Subscription {
     {
         self.introduce(rt, incoming, socket, options, output)?;
         self.is_asked = false;
-        let position = self.delivery.receiver.connect();
+        let position = self.connect();
         start_stream(rt, self.alloc, incoming, socket, options, position)
     }
 
@@ -131,15 +139,37 @@ impl Subscription {
         ensures written { Keeps (W.contents output.old) (W.contents output.new) }
         ensures delivery { self.new.delivery ≡ self.old.delivery }
     {
-        greet(rt, self.alloc, incoming, socket, options)?;
-        let system = ask_system(rt, self.alloc, incoming, socket)?;
-        judge_asked(self.alloc, options, system.as_str())?;
-        self.meet(system, output)?;
+        self.be_introduced(rt, incoming, socket, options, output)?;
         if options.create && !self.is_created {
             create_if_absent(rt, self.alloc, incoming, socket, options.slot)?;
             self.is_created = true;
         }
         Ok(())
+    }
+
+    /// Meets the server.
+    pub(crate) fn be_introduced<R: Wait + RandomSource, S: Peer, W: Output>(
+        &mut self,
+        rt: &R,
+        incoming: &mut Incoming,
+        socket: &mut S,
+        options: &Options<'_>,
+        output: &mut W,
+    ) -> Result<(), FollowFault>
+        ensures written { Keeps (W.contents output.old) (W.contents output.new) }
+        ensures delivery { self.new.delivery ≡ self.old.delivery }
+    {
+        greet(rt, self.alloc, incoming, socket, options)?;
+        let system = ask_system(rt, self.alloc, incoming, socket)?;
+        judge_asked(self.alloc, options, system.as_str())?;
+        self.meet(system, output)
+    }
+
+    /// A connection begins, or what is taken as the frames of one.
+    pub(crate) fn connect(&mut self) -> u64
+        ensures delivery { self.new.delivery ≡ connected self.old.delivery }
+    {
+        self.delivery.receiver.connect()
     }
 
     /// Takes the server for the system that it says it is, or refuses it where another one was followed.
@@ -209,14 +239,8 @@ impl Subscription {
             (standing self.new.delivery incoming.new.unread.items (W.contents output.new)
             (W.kept output.new) (S.contents socket.new)) }
     {
-        match incoming.whole()? {
-            Some((frame, length)) => {
-                let front = incoming.front(length);
-                let taken = self.delivery.take(frame, front, socket, output);
-                incoming.pass(length);
-                return taken;
-            }
-            None => {}
+        if self.take_whole(incoming, socket, output)? {
+            return Ok(());
         }
         self.delivery.settle(socket, output)?;
         match incoming.receive_more(socket) {
@@ -229,6 +253,29 @@ impl Subscription {
                 return read;
             }
         }
+    }
+
+    /// Takes the frame at the front, and answers whether there was one.
+    pub(crate) fn take_whole<S: Peer, W: Output>(
+        &mut self,
+        incoming: &mut Incoming,
+        socket: &mut S,
+        output: &mut W,
+    ) -> Result<bool, FollowFault>
+        ensures goes { Goes
+            (standing self.old.delivery incoming.old.unread.items (W.contents output.old)
+            (W.kept output.old) (S.contents socket.old))
+            (standing self.new.delivery incoming.new.unread.items (W.contents output.new)
+            (W.kept output.new) (S.contents socket.new)) }
+    {
+        let Some((frame, length)) = incoming.whole()? else {
+            return Ok(false);
+        };
+        let front = incoming.front(length);
+        let taken = self.delivery.take(frame, front, socket, output);
+        incoming.pass(length);
+        taken?;
+        Ok(true)
     }
 
     /// Prints what came before the end, and after all of it the last line; then ends the stream.

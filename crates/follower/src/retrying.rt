@@ -60,7 +60,8 @@ impl FollowFault {
             | FollowFault::LongCommand
             | FollowFault::Output(_)
             | FollowFault::OtherSystem(_)
-            | FollowFault::Login(_) => false,
+            | FollowFault::Login(_)
+            | FollowFault::NoPublication(_) => false,
         }
     }
 }

@@ -41,6 +41,12 @@ Each server of a run has to say that it is the same system, and that of FILE if 
 transaction: positions of another say nothing of what was printed. Where it is another one, and where
 FILE is removed or replaced meanwhile, nothing more is acknowledged.
 
+With --copy the slot is made, and first the rows are printed that its publications' tables hold at its
+point, as inserts of one transaction that ends there: its xid is 0. It is printed when it is whole, and
+counts as one. The server has to answer what PostgreSQL's own subscribers ask, as PostgreSQL 15 and
+pubd --answer-postgresql do, and POSITION is 0/0. A slot that is there already is refused; but one that
+a run left whose copy didn't come to its end, as FILE.copy then says, is dropped and made again.
+
 With --json each message is an object of JSON, as in wal2json's format-version 2:
 
   {\"action\":\"B\",\"xid\":700,\"lsn\":\"0/1000030\",\"timestamp\":5}
@@ -74,6 +80,7 @@ pub struct Words<'a> {
     pub follow: bool,
     pub json: bool,
     pub messages: bool,
+    pub copy: bool,
     pub send_times: bool,
     pub output: Option<&'a str>,
     pub user: Option<&'a str>,
@@ -159,10 +166,19 @@ fn command_of<'a>(alloc: Global) -> Result<Command<'a>, AllocError> {
 
 fn with_files<'a>(alloc: Global, command: Command<'a>) -> Result<Command<'a>, AllocError> {
     command
+        .arg(copy(alloc)?)?
         .arg(output(alloc)?)?
         .arg(send_times(alloc)?)?
         .arg(user(alloc)?)?
         .arg(password_file(alloc)?)
+}
+
+fn copy(alloc: Global) -> Result<Arg<'static>, AllocError> {
+    Arg::new(alloc, "copy")
+        .long("copy")
+        .action(ArgAction::SetTrue)
+        .help("With --follow, make the slot, and print the rows that are there first")
+        .requires_arg("follow")
 }
 
 fn output(alloc: Global) -> Result<Arg<'static>, AllocError> {
@@ -205,6 +221,7 @@ fn words_in<'a>(matches: &ArgMatches<'a>) -> Words<'a> {
         follow: matches.get_flag("follow"),
         json: matches.get_flag("json"),
         messages: matches.get_flag("messages"),
+        copy: matches.get_flag("copy"),
         send_times: matches.get_flag("send-times"),
         output: matches.get_str("output"),
         user: matches.get_str("user"),

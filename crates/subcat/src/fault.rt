@@ -13,6 +13,8 @@ pub enum Fault {
     Words(#[from] WordsFault),
     #[error("POSITION is two hexadecimal numbers joined by a slash, as in 0/1000030")]
     Position,
+    #[error("with --copy, POSITION is 0/0: the stream begins where the copy ends")]
+    CopyPosition,
     #[error("COUNT is a number from 0 to 4294967295")]
     Count,
     #[error("standard output cannot be used: {0}")]
@@ -23,7 +25,7 @@ pub enum Fault {
     JournalInUse,
     #[error("the output file holds something else than what subcat prints")]
     ForeignJournal,
-    #[error("the file beside the output that says its system cannot be used: {0}")]
+    #[error("a file beside the output, .system or .copy, cannot be used: {0}")]
     System(io::Error),
     #[error("no connection: {0}")]
     Connect(io::Error),
@@ -40,7 +42,7 @@ impl Ending for Fault {
     /// memory failed.
     fn status(&self) -> u8 {
         match self {
-            Fault::Position | Fault::Count => 2,
+            Fault::Position | Fault::CopyPosition | Fault::Count => 2,
             Fault::Password(fault) if fault.is_bad_input() => 2,
             Fault::Output(_)
             | Fault::Journal(_)

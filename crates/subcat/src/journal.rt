@@ -1,7 +1,7 @@
 //! A file that keeps what is printed: where it ends the next run goes on.
 
 use crate::fault::Fault;
-use crate::system_file::SystemFile;
+use crate::side_file::SideFile;
 use follower::{Form, Output, ResumePoint};
 use std::alloc::Global;
 use std::fs::{File, Metadata, OpenOptions, TryLockError, metadata};
@@ -9,16 +9,23 @@ use std::io;
 use std::io::{BufRead, BufReader, ErrorKind, Write};
 use std::os::unix::fs::MetadataExt;
 
-/// An output that outlives its run, and that one run at a time has. Beside it stands a file that says of which system it is.
+/// What the names of files beside it end with: of the one that says of which system its transactions are, and of the one that says
+/// which slot is being made for a copy.
+const SYSTEM_ENDING: &str = ".system";
+
+const COPY_ENDING: &str = ".copy";
+
+/// An output that outlives its run, and that one run at a time has.
 ///
-/// What was flushed is on the disk, under the name by which the next run looks for it. A run that is killed leaves whole transactions
-/// and at most the beginning of one, which the next run cuts off.
+/// What was flushed is on the disk, under the name by which the next run looks for it. A run that is killed leaves whole
+/// transactions and at most the beginning of one, which the next run cuts off.
 #[derive(Drop)]
 pub struct Journal<'a> {
     rt: &'a HostRuntime,
     path: &'a str,
     file: File,
-    system: SystemFile<'a>,
+    system: SideFile<'a>,
+    copy: SideFile<'a>,
 }
 
 impl<'a> Journal<'a> {
@@ -30,7 +37,8 @@ impl<'a> Journal<'a> {
         path: &'a str,
         form: Form,
     ) -> Result<(Self, ResumePoint), Fault> {
-        let system = SystemFile::beside(rt, alloc, path)?;
+        let system = SideFile::beside(rt, alloc, path, SYSTEM_ENDING)?;
+        let copy = SideFile::beside(rt, alloc, path, COPY_ENDING)?;
         let mut options = OpenOptions::new();
         options.read(true).append(true).create(true);
         let file: File = options.open(rt, path).map_err(Fault::Journal)?;
@@ -40,6 +48,7 @@ impl<'a> Journal<'a> {
             path,
             file,
             system,
+            copy,
         };
         Ok((journal, kept))
     }
@@ -51,6 +60,15 @@ impl<'a> Journal<'a> {
             return Ok(None);
         }
         self.system.read().map_err(Fault::System)
+    }
+
+    /// Whether a copy that made a slot of this name was begun into it, and may not have come to its end. `System` where the file
+    /// beside it can't be read.
+    pub fn has_left(&self, slot: &str) -> Result<bool, Fault> {
+        match self.copy.read().map_err(Fault::System)? {
+            Some(left) => Ok(left.as_str() == slot),
+            None => Ok(false),
+        }
     }
 
     /// Refused where its name names another file by now, or none: what is printed then is lost to the next run.
@@ -151,6 +169,13 @@ impl Write for Journal<'_> {
 impl Output for Journal<'_> {
     fn keep_system(&mut self, system: &str) -> io::Result<()> {
         self.system.write(system)
+    }
+
+    fn note_copy(&mut self, slot: Option<&str>) -> io::Result<()> {
+        match slot {
+            Some(slot) => self.copy.write(slot),
+            None => self.copy.remove(),
+        }
     }
 
     fn keep(&mut self) -> io::Result<()> {

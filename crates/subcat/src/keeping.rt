@@ -3,7 +3,9 @@
 use crate::fault::Fault;
 use crate::journal::Journal;
 use crate::printout::Printout;
-use follower::{FollowFault, Options, Output, Pauses, ResumePoint, Subscription, resume};
+use follower::{
+    FollowFault, Options, Output, Pauses, ResumePoint, Subscription, copy_rows, resume,
+};
 use std::alloc::Global;
 use std::net::{Net, SocketAddr, TcpListener, TcpStream};
 use std::random::RandomSource;
@@ -18,9 +20,18 @@ const PATIENCE: u64 = 30;
 /// Follows into the standard output. `Follow` where a fault isn't a passing one.
 pub fn keep_printing<
     N: Net<Listener = TcpListener, Stream = TcpStream> + Wait + Clock + RandomSource,
->(rt: &HostRuntime, net: &N, address: SocketAddr, options: &Options) -> Result<(), Fault> {
+>(
+    rt: &HostRuntime,
+    net: &N,
+    address: SocketAddr,
+    options: &Options,
+    copies: bool,
+) -> Result<(), Fault> {
     let mut subscription = Subscription::new(rt.alloc(), options);
     let mut output = Printout::new(rt);
+    if copies {
+        keep_copying(rt, net, address, options, &mut subscription, &mut output)?;
+    }
     keep_following(rt, net, address, options, &mut subscription, &mut output)
 }
 
@@ -31,12 +42,58 @@ pub fn keep_in<N: Net<Listener = TcpListener, Stream = TcpStream> + Wait + Clock
     net: &N,
     address: SocketAddr,
     options: &Options,
+    copies: bool,
     path: &str,
 ) -> Result<(), Fault> {
     let (mut journal, kept) = Journal::open(rt, rt.alloc(), path, options.form)?;
     let system = journal.system(&kept)?;
     let mut subscription = Subscription::behind(rt.alloc(), options, &kept, system);
+    if copies && kept.transactions == 0 {
+        if journal.has_left(options.slot)? {
+            subscription.note_left_slot();
+        }
+        keep_copying(rt, net, address, options, &mut subscription, &mut journal)?;
+    }
     keep_following(rt, net, address, options, &mut subscription, &mut journal)
+}
+
+/// Copies into the output, over one connection after the other, until the copy is whole. Each that was lost is told, with the pause
+/// after it.
+fn keep_copying<
+    N: Net<Listener = TcpListener, Stream = TcpStream> + Wait + Clock + RandomSource,
+    W: Output,
+>(
+    rt: &HostRuntime,
+    net: &N,
+    address: SocketAddr,
+    options: &Options,
+    subscription: &mut Subscription,
+    output: &mut W,
+) -> Result<(), Fault> {
+    let mut pauses = Pauses::new();
+    for _ in net.forever() {
+        let copied = copy_once(net, rt.alloc(), address, options, subscription, output);
+        let Err(fault) = copied else {
+            return Ok(());
+        };
+        pause_after(rt, fault, &mut pauses, false)?;
+    }
+    unreachable!()
+}
+
+fn copy_once<
+    N: Net<Listener = TcpListener, Stream = TcpStream> + Wait + Clock + RandomSource,
+    W: Output,
+>(
+    net: &N,
+    alloc: Global,
+    address: SocketAddr,
+    options: &Options,
+    subscription: &mut Subscription,
+    output: &mut W,
+) -> Result<(), FollowFault> {
+    let mut socket = connected(net, address)?;
+    copy_rows(net, alloc, &mut socket, options, subscription, output)
 }
 
 /// Goes on after what the output holds, over one connection after the other, until all is printed. Each that was lost is told, with
@@ -59,14 +116,25 @@ fn keep_following<
         let Err(fault) = followed else {
             return Ok(());
         };
-        if !fault.is_passing() {
-            return Err(Fault::Follow(fault));
-        }
-        let pause = pauses.pause(stood < subscription.position());
-        let _ = eprintln!(rt; "subcat: {fault}; tries again in {pause} ms");
-        thread::sleep(rt, Duration::from_millis(pause));
+        pause_after(rt, fault, &mut pauses, stood < subscription.position())?;
     }
     unreachable!()
+}
+
+/// Tells why a connection ended, and waits before the next. `Follow` where the fault isn't a passing one.
+fn pause_after(
+    rt: &HostRuntime,
+    fault: FollowFault,
+    pauses: &mut Pauses,
+    has_gained: bool,
+) -> Result<(), Fault> {
+    if !fault.is_passing() {
+        return Err(Fault::Follow(fault));
+    }
+    let pause = pauses.pause(has_gained);
+    let _ = eprintln!(rt; "subcat: {fault}; tries again in {pause} ms");
+    thread::sleep(rt, Duration::from_millis(pause));
+    Ok(())
 }
 
 fn follow_once<
@@ -80,9 +148,16 @@ fn follow_once<
     subscription: &mut Subscription,
     output: &mut W,
 ) -> Result<(), FollowFault> {
-    let mut socket = TcpStream::connect(net, address).map_err(FollowFault::Connection)?;
-    let patience = Some(Duration::from_secs(PATIENCE));
-    let limited = socket.set_read_timeout(patience);
-    limited.map_err(FollowFault::Connection)?;
+    let mut socket = connected(net, address)?;
     resume(net, alloc, &mut socket, options, subscription, output)
+}
+
+fn connected<N: Net<Listener = TcpListener, Stream = TcpStream>>(
+    net: &N,
+    address: SocketAddr,
+) -> Result<TcpStream, FollowFault> {
+    let socket = TcpStream::connect(net, address).map_err(FollowFault::Connection)?;
+    let limited = socket.set_read_timeout(Some(Duration::from_secs(PATIENCE)));
+    limited.map_err(FollowFault::Connection)?;
+    Ok(socket)
 }

@@ -1,5 +1,6 @@
-//! `subcat [--create] [--json [--send-times]] [--messages] [--user NAME] [--password-file FILE] [--follow [--output FILE]] ADDR SLOT POSITION PUBLICATIONS COUNT`
-//! follows a slot of a publisher, and prints each message of its stream, or, over lost connections, each transaction once.
+//! `subcat [--create] [--json [--send-times]] [--messages] [--user NAME] [--password-file FILE] [--follow [--copy] [--output FILE]]
+//! ADDR SLOT POSITION PUBLICATIONS COUNT` follows a slot of a publisher, and prints each message of its stream, or, over lost
+//! connections, each transaction once.
 //!
 //! `command.rt` reads the command line, `printout.rt` follows once, `keeping.rt` follows for good, with a `Journal` as its
 //! output, `password.rt` finds a password.
@@ -14,7 +15,7 @@ mod keeping;
 mod password;
 mod password_file;
 mod printout;
-mod system_file;
+mod side_file;
 
 use command::{Words, words_of};
 use command_line::{address_of, arguments_of, count_of, ended};
@@ -62,8 +63,8 @@ fn run_called<N: Net<Listener = TcpListener, Stream = TcpStream> + Wait + Clock 
         password.as_ref().map(|p| p.as_slice()),
     )?;
     match words.output {
-        Some(path) => keep_in(rt, net, address, &options, path),
-        None if words.follow => keep_printing(rt, net, address, &options),
+        Some(path) => keep_in(rt, net, address, &options, words.copy, path),
+        None if words.follow => keep_printing(rt, net, address, &options, words.copy),
         None => follow_at(rt, net, address, &options),
     }
 }
@@ -98,9 +99,9 @@ fn options_of<'a>(
     password: Option<&'a [u8]>,
 ) -> Result<Options<'a>, Fault> {
     Ok(Options {
-        create: words.create,
+        create: words.create && !words.copy,
         slot: words.slot,
-        position: parse_position(words.position).map_err(|_| Fault::Position)?,
+        position: position_in(words)?,
         system: None,
         publications: words.publications,
         messages: words.messages,
@@ -110,6 +111,14 @@ fn options_of<'a>(
         user,
         password,
     })
+}
+
+fn position_in(words: &Words<'_>) -> Result<u64, Fault> {
+    match parse_position(words.position) {
+        Ok(position) if words.copy && position != 0 => Err(Fault::CopyPosition),
+        Ok(position) => Ok(position),
+        Err(_) => Err(Fault::Position),
+    }
 }
 
 fn count_in(text: &str) -> Result<u32, Fault> {

@@ -64,9 +64,9 @@ pub fn user_of(rt: &HostRuntime, told: Option<&str>) -> Result<String, PasswordF
     }
 }
 
-/// The password of the environment, or else the first one that fits of the file at this path, or, where none is told, of the usual one.
-/// `Variable` where a variable is no text. Of a file that is told, `Unread` where it can't be read, `NotPlain` where it is no plain
-/// file, `Open` where others have rights to it, as PostgreSQL's clients refuse it (PostgreSQL 15, 34.16). Or `Memory`.
+/// The password of the environment, or else the first one that fits of the file at this path, or, where none is told, of the usual
+/// one. `Variable` where a variable is no text. Of a file that is told, `Unread` where it can't be read, `NotPlain` where it is no
+/// plain file, `Open` where others have rights to it, as PostgreSQL's clients refuse it (PostgreSQL 15, 34.16). Or `Memory`.
 pub fn password_of(
     rt: &HostRuntime,
     told: Option<&str>,

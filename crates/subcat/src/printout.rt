@@ -48,6 +48,10 @@ impl Output for Printout<'_> {
         Ok(())
     }
 
+    fn note_copy(&mut self, _slot: Option<&str>) -> io::Result<()> {
+        Ok(())
+    }
+
     fn keep(&mut self) -> io::Result<()> {
         self.flush()
     }

@@ -3,6 +3,7 @@
 ghost use Rattle.frames.specs.Frame.{FitsLength};
 ghost use Rattle.frames.specs.Front.{front_body};
 
+use crate::copying::questions::push_quoted;
 use crate::fault::{FollowFault, told};
 use crate::login::authenticating::authenticate;
 use crate::login::login_fault::LoginFault;
@@ -23,11 +24,11 @@ use std::sync::Wait;
 const MOST_TEXT_BYTES: usize = 1_073_741_823;
 
 /// The code by which a server refuses to create what is there (duplicate_object).
-const IS_THERE: &str = "42710";
+pub(crate) const IS_THERE: &str = "42710";
 
 /// What a server's answer ends with.
 #[derive(Clone, Copy, PartialEq, Eq)]
-enum End {
+pub(crate) enum End {
     ReadyForQuery,
     CopyBothResponse,
 }
@@ -177,7 +178,7 @@ pub(crate) fn start_stream<R: Wait, S: Read + Write>(
     wait_for(rt, incoming, socket, End::CopyBothResponse)
 }
 
-fn creating(alloc: Global, slot: &str) -> Result<String, AllocError> {
+pub(crate) fn creating(alloc: Global, slot: &str) -> Result<String, AllocError> {
     let mut text = "CREATE_REPLICATION_SLOT ".to_string(alloc)?;
     push_quoted(&mut text, slot, '"')?;
     text.push_str(" LOGICAL pgoutput")?;
@@ -198,19 +199,12 @@ fn starting(alloc: Global, options: &Options<'_>, position: u64) -> Result<Strin
     Ok(text)
 }
 
-/// Adds the word between quotes, with each of its own doubled.
-fn push_quoted(text: &mut String, word: &str, quote: char) -> Result<(), AllocError> {
-    text.push(quote)?;
-    for letter in word.chars() {
-        if letter == quote {
-            text.push(quote)?;
-        }
-        text.push(letter)?;
-    }
-    text.push(quote)
-}
-
-fn send_query<S: Write>(alloc: Global, socket: &mut S, text: String) -> Result<(), FollowFault> {
+/// Sends a query. `LongCommand` (K6) where its text is too long; else faults as of `send`.
+pub(crate) fn send_query<S: Write>(
+    alloc: Global,
+    socket: &mut S,
+    text: String,
+) -> Result<(), FollowFault> {
     if text.len() > MOST_TEXT_BYTES {
         return Err(FollowFault::LongCommand);
     }
@@ -236,7 +230,7 @@ pub(crate) fn send<S: Write>(
 }
 
 /// Passes over the frames of an answer, up to its last. What belongs to no answer is K2.
-fn wait_for<R: Wait, S: Read>(
+pub(crate) fn wait_for<R: Wait, S: Read>(
     rt: &R,
     incoming: &mut Incoming,
     socket: &mut S,
@@ -256,7 +250,7 @@ fn wait_for<R: Wait, S: Read>(
 }
 
 /// What the frame ends, if it ends an answer.
-fn end_of(frame: Back) -> Result<Option<End>, FollowFault> {
+pub(crate) fn end_of(frame: Back) -> Result<Option<End>, FollowFault> {
     match frame {
         Back::ErrorResponse(error) => Err(told(error)),
         Back::ReadyForQuery(_) => Ok(Some(End::ReadyForQuery)),

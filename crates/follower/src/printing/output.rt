@@ -15,6 +15,11 @@ pub trait Output: Write {
     fn keep_system(&mut self, system: &str) -> io::Result<()>
         ensures written { Keeps (Self.contents self.old) (Self.contents self.new) };
 
+    /// A slot of this name is being made for a copy, or none is any more: what is left of one whose run ended is told to the next.
+    fn note_copy(&mut self, slot: Option<&str>) -> io::Result<()>
+        ensures written { Self.contents self.new ≡ Self.contents self.old }
+        ensures kept { kept self.new ≡ kept self.old };
+
     /// All that was written stands there for good: no end of the run loses it.
     fn keep(&mut self) -> io::Result<()>
         ensures written { Keeps (Self.contents self.old) (Self.contents self.new) }
@@ -28,6 +33,10 @@ impl Output for Vec<u8> {
     ghost kept = { λ lines. Some lines.items };
 
     fn keep_system(&mut self, _system: &str) -> io::Result<()> {
+        Ok(())
+    }
+
+    fn note_copy(&mut self, _slot: Option<&str>) -> io::Result<()> {
         Ok(())
     }
 

@@ -8,7 +8,7 @@ use crate::login::peer::Peer;
 use crate::login::request::{RequestKind, framed_request, request_of};
 use bytes::BytesMut;
 use client::ClientFault;
-use frames::{AUTHENTICATION, Back, read_back};
+use frames::{AUTHENTICATION, Back, body_alone, read_back};
 use std::alloc::Global;
 use std::io;
 use std::io::{ErrorKind, Read};
@@ -16,6 +16,12 @@ use std::sync::Wait;
 
 /// How many bytes are read at once, at most.
 const MOST_READ: usize = 16_384;
+
+/// The type byte of CopyOutResponse.
+const COPY_OUT_RESPONSE: u8 = b'H';
+
+/// The greatest length field of one: two bytes for each of so many columns as a count of 16 bits tells.
+const MOST_COPY_OUT_BYTES: u32 = 65_600;
 
 /// What has come of a server's bytes and was not taken yet.
 #[derive(Drop)]
@@ -30,6 +36,19 @@ impl Incoming {
             alloc,
             unread: BytesMut::new(alloc),
         }
+    }
+
+    /// Of frames that need not be waited for.
+    pub(crate) fn of(alloc: Global, frames: BytesMut) -> Self {
+        Incoming {
+            alloc,
+            unread: frames,
+        }
+    }
+
+    /// Whether all that has come is taken.
+    pub(crate) fn is_empty(&self) -> bool {
+        self.unread.is_empty()
     }
 
     /// The next frame, and how many of the bytes at the front are its own. `Client` where it is none (K1) or memory is refused
@@ -86,6 +105,38 @@ impl Incoming {
         }
         let more = Vec::from_slice(self.alloc, request.more)?;
         Ok(Some(((request.kind, more), count)))
+    }
+
+    /// Passes over the CopyOutResponse before a copy (PostgreSQL 15, 55.7), if the next frame is one. Faults as of `next`.
+    pub(crate) fn pass_copy_out<R: Wait, S: Read>(
+        &mut self,
+        rt: &R,
+        socket: &mut S,
+    ) -> Result<(), FollowFault> {
+        for _ in rt.forever() {
+            match self.unread.first() {
+                Some(kind) if *kind != COPY_OUT_RESPONSE => return Ok(()),
+                _ => {}
+            }
+            if let Some(count) = self.whole_copy_out()? {
+                self.pass(count);
+                return Ok(());
+            }
+            self.read_more(socket)?;
+        }
+        Err(FollowFault::Ended)
+    }
+
+    /// How long the CopyOutResponse at the front is, if it has come whole.
+    fn whole_copy_out(&self) -> Result<Option<usize>, FollowFault> {
+        match body_alone(
+            self.unread.as_slice(),
+            COPY_OUT_RESPONSE,
+            MOST_COPY_OUT_BYTES,
+        )? {
+            Some((_, count)) => Ok(Some(count)),
+            None => Ok(None),
+        }
     }
 
     /// Waits for more.

@@ -1,26 +1,28 @@
-//! The file beside an output that says which system its transactions came from.
+//! A file beside an output that says something on a line.
 
 use std::alloc::{AllocError, Global};
-use std::fs::{File, read_to_string};
+use std::fs::{File, read_to_string, remove_file};
 use std::io;
 use std::io::{ErrorKind, Write};
 
-/// What its name ends with, after that of the output.
-const ENDING: &str = ".system";
-
-/// The system's name on a line. Without the line's end it was half written, and says nothing: the output held no transaction then.
+/// One line. Without its end it was half written, and says nothing.
 #[derive(Drop)]
-pub struct SystemFile<'a> {
+pub struct SideFile<'a> {
     rt: &'a HostRuntime,
     path: String,
 }
 
-impl<'a> SystemFile<'a> {
-    /// The one beside an output of this path. `AllocError` where memory for its path is refused.
-    pub fn beside(rt: &'a HostRuntime, alloc: Global, path: &str) -> Result<Self, AllocError> {
-        Ok(SystemFile {
+impl<'a> SideFile<'a> {
+    /// The one beside an output of this path whose name ends so. `AllocError` where memory for its path is refused.
+    pub fn beside(
+        rt: &'a HostRuntime,
+        alloc: Global,
+        path: &str,
+        ending: &str,
+    ) -> Result<Self, AllocError> {
+        Ok(SideFile {
             rt,
-            path: joined(alloc, path, ENDING)?,
+            path: joined(alloc, path, ending)?,
         })
     }
 
@@ -34,11 +36,19 @@ impl<'a> SystemFile<'a> {
     }
 
     /// Has it say this, on the disk. The system's error where it can't be written, or `OutOfMemory`.
-    pub fn write(&self, system: &str) -> io::Result<()> {
-        let line = joined(self.rt.alloc(), system, "\n")?;
+    pub fn write(&self, text: &str) -> io::Result<()> {
+        let line = joined(self.rt.alloc(), text, "\n")?;
         let mut file: File = File::create(self.rt, self.path.as_str())?;
         file.write_all(line.as_bytes())?;
         file.sync_all()
+    }
+
+    /// Removes it, if it is there. The system's error where that fails.
+    pub fn remove(&self) -> io::Result<()> {
+        match remove_file(self.rt, self.path.as_str()) {
+            Err(fault) if fault.kind() == ErrorKind::NotFound => Ok(()),
+            removed => removed,
+        }
     }
 }
 
@@ -51,7 +61,7 @@ fn joined(alloc: Global, front: &str, end: &str) -> Result<String, AllocError> {
 /// The text of a whole line.
 fn whole(alloc: Global, text: &str) -> Result<Option<String>, AllocError> {
     match text.strip_suffix("\n") {
-        Some(system) => Ok(Some(system.to_string(alloc)?)),
+        Some(told) => Ok(Some(told.to_string(alloc)?)),
         None => Ok(None),
     }
 }

@@ -1,0 +1,76 @@
+//! The copy of one table.
+
+use crate::copying::asked_rows::Value;
+use crate::copying::copied_table::CopiedTable;
+use crate::copying::made_frames::MadeFrames;
+use crate::copying::questions;
+use crate::copying::row_lines::RowLines;
+use crate::fault::{FollowFault, told};
+use crate::login::asking::send_query;
+use crate::receiving::incoming::Incoming;
+use client::ClientFault;
+use frames::Back;
+use std::alloc::Global;
+use std::io::{Read, Write};
+use std::sync::Wait;
+
+/// Copies the table of this name: adds what is told of it, and its rows. Faults as of `CopiedTable::ask` and `cells_of`.
+pub(crate) fn copy_table<R: Wait, S: Read + Write>(
+    rt: &R,
+    alloc: Global,
+    incoming: &mut Incoming,
+    socket: &mut S,
+    name: &[Value],
+    publications: &[String],
+    made: &mut MadeFrames,
+) -> Result<(), FollowFault> {
+    let table = CopiedTable::ask(rt, alloc, incoming, socket, name, publications)?;
+    let CopiedTable { relation, filters } = table;
+    send_query(
+        alloc,
+        socket,
+        questions::copy(alloc, &relation, filters.as_slice())?,
+    )?;
+    let mut lines = RowLines::new(alloc, relation.oid, !relation.columns.is_empty());
+    made.add_table(relation)?;
+    incoming.pass_copy_out(rt, socket)?;
+    take_copy(rt, incoming, socket, &mut lines, made)
+}
+
+fn take_copy<R: Wait, S: Read>(
+    rt: &R,
+    incoming: &mut Incoming,
+    socket: &mut S,
+    lines: &mut RowLines,
+    made: &mut MadeFrames,
+) -> Result<(), FollowFault> {
+    for _ in rt.forever() {
+        let (frame, length) = incoming.next(rt, socket)?;
+        incoming.pass(length);
+        if take_frame(frame, lines, made)? {
+            return Ok(());
+        }
+    }
+    Err(FollowFault::Ended)
+}
+
+/// Takes a frame of the copy, and answers whether it is the last.
+fn take_frame(
+    frame: Back,
+    lines: &mut RowLines,
+    made: &mut MadeFrames,
+) -> Result<bool, FollowFault> {
+    match frame {
+        Back::CopyData(data) => {
+            lines.take(data.bytes.as_slice(), made)?;
+            Ok(false)
+        }
+        Back::CopyDone | Back::CommandComplete(_) => Ok(false),
+        Back::ReadyForQuery(_) => Ok(true),
+        Back::ErrorResponse(error) => Err(told(error)),
+        other => {
+            drop(other);
+            Err(FollowFault::Client(ClientFault::Order))
+        }
+    }
+}
