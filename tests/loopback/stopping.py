@@ -25,6 +25,8 @@ TRANSACTIONS, ROWS, NAME = 16, 64, "n" * 7900
 LATEST, ENDING = 20, 15
 # How many places a server has that clients without a startup take, and for how many seconds.
 PLACES, STARTUP_TIME = 3, 30
+# How often a stream begins while its server ends.
+MEETINGS = 200
 IN_USE, MISSING = "55006", "42704"
 
 WAYS = {
@@ -193,6 +195,34 @@ def ended_by_signal(server, has_input):
         client.close()
     ended = server.wait(ENDING)
     return wrong + [f"it ends with status {ended}"] * bool(ended)
+
+
+def a_stream_that_begins_as_its_server_ends_is_whole(pubd, subcat):
+    """Where START_REPLICATION is answered with CopyBothResponse, what was committed follows, and CopyDone. How the two meet differs by
+    chance, so it is tried again and again."""
+    query = b"START_REPLICATION SLOT s LOGICAL 0/0 (proto_version '1', publication_names 'p')\0"
+    wrong, begun = [], 0
+    for at in range(MEETINGS):
+        with publisher_of(pubd) as publisher:
+            client = Connection(publisher.port)
+            client.create("s")
+            publisher.commit("insert public.item (1,'ab',7)", time=1)
+            client.socket.sendall(b"Q" + struct.pack(">I", len(query) + 4) + query)
+            time.sleep(at % 20 * 2e-5)
+            publisher.process.stdin.write("end\n")
+            came = rest_of(client)
+            client.close()
+        begun += came.startswith(b"W")
+        wrong += [f"a stream ends behind {came!r}"] * (came.startswith(b"W") and not (b"ab" in came and COPY_DONE in came))
+    return wrong[:1] + ["no stream began"] * (not begun)
+
+
+def rest_of(client):
+    """All that comes yet; nothing where the server closed the socket before it read what was sent to it."""
+    try:
+        return client.bytes.read()
+    except ConnectionError:
+        return b""
 
 
 def a_server_that_was_stopped_goes_on(pubd, subcat):

@@ -52,11 +52,17 @@ fn write_step<L: LogName + SlotName, R: Wait + Clock, G: ServerObserver>(
     write: &WriteLoop<'_, L, R, G>,
 ) -> Result<(), ConnectionEnd> {
     let mut work = write.mailbox.take(write.rt);
+    let is_last = work.phase == Phase::Closed;
+    if is_last && write.server_state.is_ending() {
+        // A stream that has begun with it sends what the log has, as one that runs does.
+        work.phase = Phase::Streaming;
+    }
     say_first(write, &mut work)?;
-    let Some(stream) = stream_of(write, &work) else {
-        return Ok(());
-    };
-    write_whole(write, stream, work)?;
+    match stream_of(write, &work) {
+        Some(stream) => write_whole(write, stream, work)?,
+        None if is_last => return Err(ConnectionEnd::Client),
+        None => return Ok(()),
+    }
     write.mailbox.end_stream(write.rt);
     Ok(())
 }
