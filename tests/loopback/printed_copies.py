@@ -20,7 +20,7 @@ from driven import Publisher
 
 ROWS, CUTS, KILLS = 400, 60, 25
 # How many bytes pass before a cut, at most; of a copy, and between two kills.
-WITHIN, STRIDE = 6000, 30000
+WITHIN, STRIDE = 9000, 30000
 # Rows with each byte that COPY escapes, and their lines of text: subcat prints a control character as \\xNN.
 VALUES = [("'ab'", "'ab'"), ("null", "null"), ("''", "''"), (r"E'\\N'", None), (r"E'a\tb\nc\\d\re\x0b\x0c\x08'", None), ("'ü€😀'", None)]
 
@@ -95,7 +95,7 @@ def commit_slowly(publisher, rows, ended):
 
 
 def cuts_and_kills_copy_each_row_once(pubd, subcat):
-    """Rows are committed before, while and after they are copied, over 60 cuts, some of them within the copy, and 25 kills."""
+    """Rows are committed before, while and after they are copied, over at most 60 cuts, some of them within the copy, and 25 kills."""
     draw, wrong, ended = random.Random(17), [], threading.Event()
     with (
         tempfile.TemporaryDirectory() as folder,
@@ -111,7 +111,7 @@ def cuts_and_kills_copy_each_row_once(pubd, subcat):
             follower = subprocess.Popen(words, stderr=subprocess.PIPE, text=True)
             proxy.strike(follower, draw.randrange(STRIDE))
             try:
-                told = follower.communicate(timeout=10)[1].splitlines()[-1:]
+                told = follower.communicate(timeout=25)[1].splitlines()[-1:]
             except subprocess.TimeoutExpired:
                 # All is there, and no more bytes come.
                 follower.kill()
@@ -121,7 +121,7 @@ def cuts_and_kills_copy_each_row_once(pubd, subcat):
         ended.wait(60)
         follower = subprocess.Popen(words, stderr=subprocess.DEVNULL)
         due = sorted([*range(1, ROWS + 1), *range(1000, 1000 + ROWS)])
-        for _ in range(600):
+        for _ in range(1800):
             copy, later, more = what_is_printed(output.read_text().splitlines() if output.exists() else [])
             if len(copy) + len(later) >= len(due):
                 break
