@@ -86,12 +86,21 @@ def what_is_printed(lines):
     return copy or [], later, wrong
 
 
-def commit_slowly(publisher, rows, ended):
-    """Transactions of one row each, one after the other."""
+def commit_slowly(publisher, rows, output, ended):
+    """Transactions of one row each, one after the other: the second half once a copy is printed."""
     for key in range(1, rows + 1):
+        if key == rows // 2:
+            await_copy(output)
         publisher.commit(f"insert public.item ({key},'ab',7)", time=key)
         time.sleep(0.01)
     ended.set()
+
+
+def await_copy(output):
+    for _ in range(1200):
+        if output.exists() and "COMMIT" in output.read_text():
+            break
+        time.sleep(0.1)
 
 
 def cuts_and_kills_copy_each_row_once(pubd, subcat):
@@ -104,8 +113,8 @@ def cuts_and_kills_copy_each_row_once(pubd, subcat):
     ):
         for key in range(1000, 1000 + ROWS):
             publisher.commit(f"insert public.item ({key},'ab',7)", time=key)
-        threading.Thread(target=commit_slowly, args=(publisher, ROWS, ended), daemon=True).start()
         output = pathlib.Path(folder) / "output"
+        threading.Thread(target=commit_slowly, args=(publisher, ROWS, output, ended), daemon=True).start()
         words = words_of(subcat, proxy.port, "--output", output, count=1_000_000)
         for kill in range(KILLS):
             follower = subprocess.Popen(words, stderr=subprocess.PIPE, text=True)
@@ -130,6 +139,7 @@ def cuts_and_kills_copy_each_row_once(pubd, subcat):
         follower.wait()
         wrong += more + ["rows are lost, or come twice"] * (sorted(copy + later) != due)
         wrong += ["the stream has another order"] * (later != sorted(later)) + ["the copy has no row"] * (not copy)
+        wrong += ["nothing follows the copy"] * (not later)
         return wrong + ["what is left of a copy is told of"] * output.with_name("output.copy").exists()
 
 

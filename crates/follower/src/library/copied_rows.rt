@@ -24,7 +24,9 @@ use std::sync::Wait;
 ///
 /// ```text
 /// let copied = CopiedRows::new(rt, alloc, &mut connect(rt, address)?, &options, false)?;
-/// for change in copied.transaction() .. { for change in transaction.changes() { .. } }
+/// if let Some(transaction) = copied.transaction() {
+///     for change in transaction.changes() { .. }
+/// }
 /// ```
 #[derive(Drop)]
 pub struct CopiedRows {
