@@ -4,6 +4,8 @@
                                              naps so many microseconds between two reads. It prints a line for each: when its
                                              START was sent and when the last Commit came, in seconds, the rows, and the bytes
                                              of all frames that carry a message.
+   readers follow PORT BATCH SLOT..          Makes each slot and takes its stream, on a thread of its own, until the server ends it.
+                                             After so many Commits it acknowledges the last.
    readers commits PORT COUNT SLOT PIPE      Lets a server that waits for a reader of its pipe commit COUNT times, or, where
                                              PIPE is -, commits by SQL. It prints a line for each: how many microseconds passed
                                              until the subscriber of the slot had the Commit. */
@@ -21,6 +23,7 @@ struct stream {
     int socket, refused;
     size_t held;
     long rows, wire, commits;
+    unsigned char end[8]; /* of the last Commit */
     unsigned char bytes[1 << 16];
 };
 
@@ -86,7 +89,10 @@ static int take_frames(struct stream *stream)
         if (frame[0] == 'd' && frame[5] == 'w') {
             stream->wire += 1 + (long)length;
             stream->rows += frame[30] == 'I';
-            stream->commits += frame[30] == 'C';
+            if (frame[30] == 'C') {
+                stream->commits++;
+                memcpy(stream->end, frame + 40, sizeof stream->end);
+            }
         }
         if (frame[0] == 'E')
             stream->refused = 1;
@@ -173,22 +179,52 @@ static void *take_stream(void *slot)
     return NULL;
 }
 
-static void take_streams(int count, char **slots)
-{
-    pthread_t threads[count];
-    pthread_barrier_init(&all_ready, NULL, (unsigned)count);
-    for (int i = 0; i < count; i++)
-        if (pthread_create(&threads[i], NULL, take_stream, slots[i]) != 0)
-            fail("no thread");
-    for (int i = 0; i < count; i++)
-        pthread_join(threads[i], NULL);
-}
-
 static void ask(struct stream *stream, const char *query)
 {
     send_query(stream, query);
     if (wait_for_answer(stream) != 'Z')
         fail("a query was refused");
+}
+
+static void acknowledge(struct stream *stream)
+{
+    unsigned char status[39] = "d\0\0\0\x26r";
+    for (int field = 0; field < 3; field++)
+        memcpy(status + 6 + 8 * field, stream->end, sizeof stream->end);
+    send_all(stream, status, sizeof status);
+}
+
+static void *follow_stream(void *slot)
+{
+    struct stream *stream = subscriber();
+    char command[200];
+    snprintf(command, sizeof command, "CREATE_REPLICATION_SLOT %s LOGICAL pgoutput", (char *)slot);
+    ask(stream, command);
+    start(stream, slot);
+    long acknowledged = 0;
+    ssize_t count;
+    while ((count = recv(stream->socket, stream->bytes + stream->held, sizeof stream->bytes - stream->held, 0)) > 0) {
+        stream->held += (size_t)count;
+        take_frames(stream);
+        if (stream->commits - acknowledged >= last_commit) {
+            acknowledge(stream);
+            acknowledged = stream->commits - stream->commits % last_commit;
+        }
+    }
+    close(stream->socket);
+    free(stream);
+    return NULL;
+}
+
+static void take_streams(void *(*take)(void *), int count, char **slots)
+{
+    pthread_t threads[count];
+    pthread_barrier_init(&all_ready, NULL, (unsigned)count);
+    for (int i = 0; i < count; i++)
+        if (pthread_create(&threads[i], NULL, take, slots[i]) != 0)
+            fail("no thread");
+    for (int i = 0; i < count; i++)
+        pthread_join(threads[i], NULL);
 }
 
 /* Has a pubd do lines, which it is told through a pipe, and waits until it has answered each. */
@@ -264,13 +300,15 @@ static void time_commits(int count, const char *slot, const char *lines, const c
 
 int main(int count, char **words)
 {
-    if (count < 6)
-        fail("readers streams PORT NAP COMMITS SLOT.. | readers commits PORT COUNT SLOT LINES ANSWERS");
+    if (count < 5)
+        fail("readers streams PORT NAP COMMITS SLOT.. | readers follow PORT BATCH SLOT.. | readers commits PORT COUNT SLOT LINES ANSWERS");
     port = atoi(words[2]);
     nap = atol(words[3]);
-    last_commit = atol(words[4]);
+    last_commit = atol(words[strcmp(words[1], "streams") == 0 ? 4 : 3]);
     if (strcmp(words[1], "streams") == 0)
-        take_streams(count - 5, words + 5);
+        take_streams(take_stream, count - 5, words + 5);
+    else if (strcmp(words[1], "follow") == 0)
+        take_streams(follow_stream, count - 4, words + 4);
     else
         time_commits(atoi(words[3]), words[4], words[5], words[count - 1]);
     return 0;

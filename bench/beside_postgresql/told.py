@@ -10,10 +10,10 @@ from .servers import Failed, Pubd
 class Told:
     """A pubd whose script is its standard input. With `heaps` the C library's threads share so many heaps."""
 
-    def __init__(self, program, folder, connections, configuration=Pubd.CONFIGURATION, heaps=None):
+    def __init__(self, program, folder, connections, configuration=Pubd.CONFIGURATION, heaps=None, limits=(), connections_at_once=1000):
         (pathlib.Path(folder) / "pubd.toml").write_text(configuration)
-        limits = ["--wal-sender-timeout", "0", "--max-connections", "1000", "--log-min-messages", "error"]
-        words = [program, *limits, "pubd.toml", "127.0.0.1:0", str(connections), "-"]
+        always = ["--wal-sender-timeout", "0", "--max-connections", str(connections_at_once), "--log-min-messages", "error"]
+        words = [program, *always, *limits, "pubd.toml", "127.0.0.1:0", str(connections), "-"]
         shared = {"MALLOC_ARENA_MAX": str(heaps)} if heaps else {}
         pipes = {"stdin": subprocess.PIPE, "stdout": subprocess.PIPE, "text": True}
         self.process = subprocess.Popen(words, cwd=folder, env=os.environ | shared, **pipes)

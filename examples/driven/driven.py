@@ -59,7 +59,8 @@ class Publisher:
         return self.say("commit T" if time is None else f"commit T {time}")
 
     def end(self):
-        """Ends it in order: its streams get what is left and CopyDone. Answers its exit status."""
+        """Ends it in order: its streams get what is left and CopyDone, and it waits until their clients have ended their sides, for ten
+        seconds at most. Answers its exit status."""
         self.say("end")
         return self.process.wait()
 

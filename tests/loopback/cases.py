@@ -127,6 +127,7 @@ from stopping import (
     a_server_that_was_stopped_goes_on,
     a_stream_that_begins_as_its_server_ends_is_whole,
     an_end_takes_ten_seconds,
+    who_acknowledges_at_the_end_is_heard_out,
     who_reads_no_answer_before_its_startup_is_let_go,
     who_reads_nothing_any_more_is_let_go,
 )
@@ -439,6 +440,7 @@ LONG = [
     cuts_and_kills_lose_and_repeat_no_line_of_json,
     a_silent_server_is_asked_and_then_lost,
     an_end_takes_ten_seconds,
+    who_acknowledges_at_the_end_is_heard_out,
     who_reads_no_answer_before_its_startup_is_let_go,
     a_slow_reader_of_the_page_holds_up_nobody,
 ]

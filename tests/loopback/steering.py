@@ -141,8 +141,8 @@ def a_server_ends_in_order(pubd, subcat):
         silent = Connection(publisher.port, says_nothing=True)
         clients = [stream_of(publisher, slot) for slot in ("s", "held")]
         publisher.say("hold held")
-        end = insert(publisher, 1)
-        wrong = [f"it ends with status {ended}" for ended in [publisher.end()] if ended]
+        end, wrong = insert(publisher, 1), []
+        publisher.say("end")
         for client in clients:
             wrong += ["a stream lacks its last transaction"] * (client.commits(1) != [end])
             kind, body = client.frame()
@@ -150,6 +150,8 @@ def a_server_ends_in_order(pubd, subcat):
                 kind, body = client.frame()
             wrong += [f"a stream ends with {kind}"] * (kind != b"c")
             wrong += ["more comes after CopyDone"] * (all_that_comes(client) != b"")
+            client.close()
+        wrong += [f"it ends with status {ended}" for ended in [publisher.process.wait()] if ended]
         for client in (idle, silent):
             wrong += ["who has no stream isn't closed"] * (all_that_comes(client) != b"")
         try:

@@ -9,7 +9,7 @@ import sys
 import threading
 import time
 
-from connection import TERMINATE, Connection, Refused, framed, status
+from connection import TERMINATE, Connection, Refused, framed, position, status
 from server import CONFIGURATION, FIRST, Server
 
 sys.path.insert(0, str(pathlib.Path(__file__).resolve().parent.parent.parent / "examples" / "driven"))
@@ -157,6 +157,33 @@ def an_end_takes_ten_seconds(pubd, subcat):
         finally:
             for client in clients:
                 client.close()
+
+
+def who_acknowledges_at_the_end_is_heard_out(pubd, subcat):
+    """A server that has said CopyDone reads statuses until its client closes its side or says CopyDone too: none of them is answered by
+    a reset, at which what was sent would be lost."""
+    wrong = []
+    for leave in (lambda client: client.close(), lambda client: client.socket.sendall(COPY_DONE)):
+        with publisher_of(pubd) as publisher:
+            client = Connection(publisher.port)
+            client.create("s")
+            client.start("s")
+            end = position(publisher.commit("insert public.item (1,'ab',7)", time=1))
+            publisher.say("end")
+            came = client.bytes.read()
+            try:
+                for _ in range(3):
+                    client.socket.sendall(status(end))
+                    time.sleep(0.1)
+                leave(client)
+            except OSError as reset:
+                wrong.append(f"a status after CopyDone: {reset}")
+            begun = time.monotonic()
+            ended, took = publisher.process.wait(ENDING), time.monotonic() - begun
+            client.close()
+            wrong += [f"a stream ends behind {came!r}"] * (not came.endswith(COPY_DONE))
+            wrong += [f"it ends with status {ended}, {took:.1f} s after its client"] * (ended != 0 or took > LATEST / 4)
+    return wrong
 
 
 def a_signal_ends_a_server_in_order(pubd, subcat):

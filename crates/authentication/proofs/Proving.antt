@@ -9,7 +9,7 @@ use Rattle.scram.specs.Attributes.{◌>>=◌}
 use Rattle.scram.specs.declared.server_side.account.Account.{Account}
 use Rattle.scram.specs.declared.fault.ExchangeFault.{ExchangeFault}
 use Rattle.scram.specs.declared.fault.ExchangeFault.TheVariants.{Password}
-use Rattle.scram.specs.declared.server_side.login.Asked.{Asked as Question}
+use Rattle.scram.specs.declared.server_side.login.ProofRequest.{ProofRequest as Question}
 use Rattle.scram.specs.declared.server_side.login.Login.{Login}
 use Rattle.scram.specs.declared.server_side.login.Login.TheVariants.{Offered, Chosen, Challenged}
 use Rattle.scram.specs.declared.server_side.login.Reply.{Reply}
@@ -21,9 +21,9 @@ use Rattle.scram.proofs.Proved.{verdict_right}
 use Rattle.scram.specs.Logins.{after_choice, answer_to, begins, initial_of, reply_to}
 use Rattle.server.specs.Opening.{value_of}
 use Rattle.authentication.specs.declared.stage.Asking.{Asking}
-use Rattle.authentication.specs.declared.stage.Opening.{Opening}
-use Rattle.authentication.specs.declared.stage.Stage.{Stage}
-use Rattle.authentication.specs.declared.stage.Stage.TheVariants.{Fresh, Asked, Passed, Closed}
+use Rattle.authentication.specs.declared.stage.StartupUser.{StartupUser}
+use Rattle.authentication.specs.declared.stage.AuthenticationStage.{AuthenticationStage}
+use Rattle.authentication.specs.declared.stage.AuthenticationStage.TheVariants.{Fresh, Asked, Passed, Closed}
 use Rattle.authentication.specs.declared.users.Users.{Users}
 use Rattle.authentication.specs.Accounts.{IsAccountOf}
 use Rattle.authentication.specs.Turns.{Asks, AreTurns, IsProved, IsTurn, Opens, Replies, Turn, named_user}
@@ -105,14 +105,14 @@ pub record IsAsked (nonce : List ℕ) (asking : Asking) : Type 0 where
   pub is : IsAccountOf users asking.opening.user account
   pub login : IsLogin account nonce asking.login
 
-abbrev pub Holds : List ℕ → Stage → Type 0
+abbrev pub Holds : List ℕ → AuthenticationStage → Type 0
 Holds nonce Fresh = Unit {0}
 Holds nonce (Asked asking) = IsAsked nonce asking
 Holds nonce (Passed opening) = IsProved nonce opening
 Holds nonce Closed = Unit {0}
 
 asks_holds : (users : Users) (nonce text : List ℕ) (parameters : List Parameter) → SpellsStartup text (Session parameters) → (named : Option (List ℕ)) → named_user (value_of (codes "user") parameters) ≡ named
-    → (said : List ℕ) (next : Stage) → Asks users nonce text named said next → Holds nonce next
+    → (said : List ℕ) (next : AuthenticationStage) → Asks users nonce text named said next → Holds nonce next
 asks_holds users nonce text parameters spells None named said next asks = subst (Holds nonce) (sym asks.1) tt
 asks_holds users nonce text parameters spells (Some user) named said next asks = subst (Holds nonce) (sym asks.3) (record {
   users = users;
@@ -124,13 +124,13 @@ asks_holds users nonce text parameters spells (Some user) named said next asks =
   login = (refl, refl);
 })
 
-opens_holds : (users : Users) (nonce text : List ℕ) (startup : Startup) → SpellsStartup text startup → (said : List ℕ) (next : Stage) → Opens users nonce text startup said next → Holds nonce next
+opens_holds : (users : Users) (nonce text : List ℕ) (startup : Startup) → SpellsStartup text startup → (said : List ℕ) (next : AuthenticationStage) → Opens users nonce text startup said next → Holds nonce next
 opens_holds users nonce text (Session parameters) spells said next opens = asks_holds users nonce text parameters spells (named_user (value_of (codes "user") parameters)) refl said next opens
 opens_holds users nonce text Ssl spells said next opens = subst (Holds nonce) (sym opens.1) tt
 opens_holds users nonce text Gss spells said next opens = subst (Holds nonce) (sym opens.1) tt
 opens_holds users nonce text (Cancel process key) spells said next opens = subst (Holds nonce) (sym opens.1) tt
 
-replies_hold : (nonce : List ℕ) (asking : Asking) (body : List ℕ) → IsAsked nonce asking → (r : Result Reply ExchangeFault) → answer_to asking.login body ≡ r → (said : List ℕ) (next : Stage) → Replies asking.opening r said next → Holds nonce next
+replies_hold : (nonce : List ℕ) (asking : Asking) (body : List ℕ) → IsAsked nonce asking → (r : Result Reply ExchangeFault) → answer_to asking.login body ≡ r → (said : List ℕ) (next : AuthenticationStage) → Replies asking.opening r said next → Holds nonce next
 replies_hold nonce asking body holds (Err fault) is said next replies = subst (Holds nonce) (sym replies.1) tt
 replies_hold nonce asking body holds (Ok (Continue text login)) is said next replies = subst (Holds nonce) (sym replies.1) (record {
   users = holds.users;
@@ -157,7 +157,7 @@ replies_hold nonce asking body holds (Ok (Final text)) is said next replies =
       proved = proof.3;
     })
 
-turn_holds : (users : Users) (nonce : List ℕ) (old : Stage) (text said : List ℕ) (new : Stage) → Holds nonce old → IsTurn users nonce old text said new → Holds nonce new
+turn_holds : (users : Users) (nonce : List ℕ) (old : AuthenticationStage) (text said : List ℕ) (new : AuthenticationStage) → Holds nonce old → IsTurn users nonce old text said new → Holds nonce new
 turn_holds users nonce Fresh text said new holds (inl (startup, spells, opens)) = opens_holds users nonce text startup spells said new opens
 turn_holds users nonce Fresh text said new holds (inr (fault, is, says)) = subst (Holds nonce) (sym says.1) tt
 turn_holds users nonce (Asked asking) text said new holds (inl (body, is, replies)) = replies_hold nonce asking body holds (answer_to asking.login body) refl said new replies
@@ -165,9 +165,9 @@ turn_holds users nonce (Asked asking) text said new holds (inr (fault, is, says)
 turn_holds users nonce (Passed opening) text said new holds is = absurd is
 turn_holds users nonce Closed text said new holds says = subst (Holds nonce) (sym says.1) tt
 
-turns_hold : (nonce : List ℕ) (old : Stage) (turns : List Turn) (new : Stage) → Holds nonce old → AreTurns nonce old turns new → Holds nonce new
+turns_hold : (nonce : List ℕ) (old : AuthenticationStage) (turns : List Turn) (new : AuthenticationStage) → Holds nonce old → AreTurns nonce old turns new → Holds nonce new
 turns_hold nonce old [] new holds is = subst (Holds nonce) (sym is) holds
 turns_hold nonce old (t ∷ ts) new holds (mid, turn, are) = turns_hold nonce mid ts new (turn_holds t.users nonce old t.text t.said mid holds turn) are
 
-pub let_in_by_proof : (nonce : List ℕ) (turns : List Turn) (opening : Opening) → AreTurns nonce Fresh turns (Passed opening) → IsProved nonce opening
+pub let_in_by_proof : (nonce : List ℕ) (turns : List Turn) (opening : StartupUser) → AreTurns nonce Fresh turns (Passed opening) → IsProved nonce opening
 let_in_by_proof nonce turns opening are = turns_hold nonce Fresh turns (Passed opening) tt are

@@ -16,9 +16,9 @@ use Rattle.server.specs.Turns.{refusal_of}
 use Rattle.server.proofs.Turning.{read_fault, front_of_some}
 use Rattle.authentication.specs.declared.password_message.TheConstants.{PASSWORD}
 use Rattle.authentication.specs.declared.stage.Asking.{Asking}
-use Rattle.authentication.specs.declared.stage.Stage.{Stage}
-use Rattle.authentication.specs.declared.stage.Stage.TheVariants.{Fresh, Asked, Closed}
-use Rattle.authentication.specs.declared.stage.Turned.{Turned}
+use Rattle.authentication.specs.declared.stage.AuthenticationStage.{AuthenticationStage}
+use Rattle.authentication.specs.declared.stage.AuthenticationStage.TheVariants.{Fresh, Asked, Closed}
+use Rattle.authentication.specs.declared.stage.AuthenticationTurn.{AuthenticationTurn}
 use Rattle.authentication.specs.declared.users.Users.{Users}
 use Rattle.authentication.specs.Messages.{framed_password}
 use Rattle.authentication.specs.Refusing.{not_a_message}
@@ -35,7 +35,7 @@ faulty_startup : (bytes : List ℕ) (fault : FrameFault) → framed_startup byte
 faulty_startup [] fault is = absurd cc
 faulty_startup (b ∷ bytes) fault is = omega arith
 
-pub startup_turned : (users : Users) (nonce pending : List ℕ) (count : ℕ) (startup : Startup) (next : Stage) (out out' : List ℕ)
+pub startup_turned : (users : Users) (nonce pending : List ℕ) (count : ℕ) (startup : Startup) (next : AuthenticationStage) (out out' : List ℕ)
     → count ≤ length pending → SpellsStartup (take count pending) startup
     → (said : List ℕ) × Opens users nonce (take count pending) startup said next × (out' ≡ out ++ said)
     → IsTurned users nonce Fresh pending (record { stage = next; count = count }) out out'
@@ -50,12 +50,12 @@ startup_refused users nonce pending fault out out' other gives says =
     let whole : take (length pending) pending ≡ pending = take_all (length pending) pending (omega arith) in
     inr (faulty_startup pending fault is, omega arith, error_of_refusal (refusal_of fault), inr (fault, rw whole is, (refl, refl)), says)
 
-pub startup_refused_turned : (users : Users) (nonce pending : List ℕ) (fault : FrameFault) (out out' : List ℕ) (r : Result Turned AllocError)
+pub startup_refused_turned : (users : Users) (nonce pending : List ℕ) (fault : FrameFault) (out out' : List ℕ) (r : Result AuthenticationTurn AllocError)
     → Gives (Err fault) (framed_startup pending)
     → IfOk r (λ _. fault ≢ Memory) → IfOk r (λ t. t ≡ record { stage = Closed; count = length pending }) → IfOk r (λ _. out' ≡ out ++ error_of_refusal (refusal_of fault))
     → IfOk r (λ t. IsTurned users nonce Fresh pending t out out')
 startup_refused_turned users nonce pending fault out out' (Ok t) gives other is says =
-    subst (λ (x : Turned). IsTurned users nonce Fresh pending x out out') (sym is) (startup_refused users nonce pending fault out out' other gives says)
+    subst (λ (x : AuthenticationTurn). IsTurned users nonce Fresh pending x out out') (sym is) (startup_refused users nonce pending fault out out' other gives says)
 startup_refused_turned users nonce pending fault out out' (Err e) gives other is says = tt
 
 -- ---- a message
@@ -64,7 +64,7 @@ faulty_message : (bytes : List ℕ) (fault : FrameFault) → framed_password byt
 faulty_message [] fault is = absurd cc
 faulty_message (b ∷ bytes) fault is = omega arith
 
-pub message_turned : (users : Users) (nonce : List ℕ) (asking : Asking) (pending : List ℕ) (count : ℕ) (body : List ℕ) (next : Stage) (out out' : List ℕ)
+pub message_turned : (users : Users) (nonce : List ℕ) (asking : Asking) (pending : List ℕ) (count : ℕ) (body : List ℕ) (next : AuthenticationStage) (out out' : List ℕ)
     → 0 < count → count ≤ length pending → take count pending ≡ frame PASSWORD body
     → (said : List ℕ) × Replies asking.opening (answer_to asking.login body) said next × (out' ≡ out ++ said)
     → IsTurned users nonce (Asked asking) pending (record { stage = next; count = count }) out out'

@@ -7,13 +7,13 @@ use Rattle.server.specs.declared.stages.stage.Stage.{Stage as Opened}
 use Rattle.server.specs.Segment.{phase_of}
 use Rattle.authentication.specs.declared.guarded_connection.Guard.{Guard}
 use Rattle.authentication.specs.declared.guarded_connection.GuardedConnection.{GuardedConnection}
-use Rattle.authentication.specs.declared.stage.Stage.{Stage}
-use Rattle.authentication.specs.declared.stage.Stage.TheVariants.{Fresh, Asked, Passed, Closed}
-use Rattle.authentication.specs.declared.stage.Turned.{Turned}
+use Rattle.authentication.specs.declared.stage.AuthenticationStage.{AuthenticationStage}
+use Rattle.authentication.specs.declared.stage.AuthenticationStage.TheVariants.{Fresh, Asked, Passed, Closed}
+use Rattle.authentication.specs.declared.stage.AuthenticationTurn.{AuthenticationTurn}
 use Rattle.authentication.specs.declared.users.Users.{Users}
 use Rattle.authentication.specs.Turns.{IsTurned}
 
-abbrev pub is_closed : Stage → Bool
+abbrev pub is_closed : AuthenticationStage → Bool
 is_closed Closed = true
 is_closed Fresh = false
 is_closed (Asked asking) = false
@@ -34,12 +34,12 @@ abbrev pub Hears : Connection → List ℕ → Connection → Type 0
 Hears old text new = (new.stage ≡ old.stage) × (new.service ≡ old.service) × (new.pending.items ≡ old.pending.items ++ text)
 
 -- what stands before the connection, which has heard nothing more
-abbrev pub Guards : Stage → List ℕ → List ℕ → Connection → GuardedConnection → Type 0
+abbrev pub Guards : AuthenticationStage → List ℕ → List ℕ → Connection → GuardedConnection → Type 0
 Guards stage rest nonce connection new =
     (guard : Guard) × (new.guard ≡ Some guard) × (guard.stage ≡ stage) × (guard.pending.items ≡ rest) × (guard.nonce ≡ nonce) × (new.connection ≡ connection)
 
 -- Where the proof was right, the connection hears the startup and what came after the proof; else nothing.
-abbrev pub LetsIn : Stage → List ℕ → List ℕ → Connection → GuardedConnection → Type 0
+abbrev pub LetsIn : AuthenticationStage → List ℕ → List ℕ → Connection → GuardedConnection → Type 0
 LetsIn (Passed opening) rest nonce connection new = (new.guard ≡ None) × (new.user ≡ Some opening.user) × Hears connection (opening.startup ++ rest) new.connection
 LetsIn Fresh rest nonce connection new = Guards Fresh rest nonce connection new
 LetsIn (Asked asking) rest nonce connection new = Guards (Asked asking) rest nonce connection new
@@ -49,4 +49,4 @@ LetsIn Closed rest nonce connection new = Guards Closed rest nonce connection ne
 abbrev pub IsAuthenticated : Users → Option Guard → GuardedConnection → List ℕ → GuardedConnection → List ℕ → Type 0
 IsAuthenticated users None old out new out' = (new ≡ old) × (out' ≡ out)
 IsAuthenticated users (Some guard) old out new out' =
-    (t : Turned) × IsTurned users guard.nonce guard.stage guard.pending.items t out out' × LetsIn t.stage (drop t.count guard.pending.items) guard.nonce old.connection new
+    (t : AuthenticationTurn) × IsTurned users guard.nonce guard.stage guard.pending.items t out out' × LetsIn t.stage (drop t.count guard.pending.items) guard.nonce old.connection new

@@ -22,17 +22,17 @@ use Rattle.server.specs.Said.{error_of_refusal}
 use Rattle.server.specs.Turns.{refusal_of}
 use Rattle.authentication.specs.declared.password_message.TheConstants.{PASSWORD}
 use Rattle.authentication.specs.declared.stage.Asking.{Asking}
-use Rattle.authentication.specs.declared.stage.Opening.{Opening}
-use Rattle.authentication.specs.declared.stage.Stage.{Stage}
-use Rattle.authentication.specs.declared.stage.Stage.TheVariants.{Fresh, Asked, Passed, Closed}
-use Rattle.authentication.specs.declared.stage.Turned.{Turned}
+use Rattle.authentication.specs.declared.stage.StartupUser.{StartupUser}
+use Rattle.authentication.specs.declared.stage.AuthenticationStage.{AuthenticationStage}
+use Rattle.authentication.specs.declared.stage.AuthenticationStage.TheVariants.{Fresh, Asked, Passed, Closed}
+use Rattle.authentication.specs.declared.stage.AuthenticationTurn.{AuthenticationTurn}
 use Rattle.authentication.specs.declared.users.Users.{Users}
 use Rattle.authentication.specs.Accounts.{IsAccountOf}
 use Rattle.authentication.specs.Messages.{sasl_request, sasl_continue, sasl_final, framed_password}
 use Rattle.authentication.specs.Refusing.{failed, nobody, not_a_message}
 
 -- this is said, and the authentication is then at this stage
-abbrev pub Says : List ℕ → Stage → List ℕ → Stage → Type 0
+abbrev pub Says : List ℕ → AuthenticationStage → List ℕ → AuthenticationStage → Type 0
 Says text stage said next = (said ≡ text) × (next ≡ stage)
 
 -- the user that is named, if its name isn't empty
@@ -42,27 +42,27 @@ named_user (Some []) = None
 named_user (Some (b ∷ bytes)) = Some (b ∷ bytes)
 
 -- The user is asked for a proof by the nonce, whether there is one of its name or not.
-abbrev pub Asks : Users → List ℕ → List ℕ → Option (List ℕ) → List ℕ → Stage → Type 0
+abbrev pub Asks : Users → List ℕ → List ℕ → Option (List ℕ) → List ℕ → AuthenticationStage → Type 0
 Asks users nonce startup None said next = Says nobody Closed said next
 Asks users nonce startup (Some user) said next = (account : Account) × IsAccountOf users user account × (said ≡ sasl_request)
     × (next ≡ Asked (record { opening = record { startup = startup; user = user }; login = Offered (record { account = account; nonce = nonce }) }))
 
 -- Encryption is declined by a single byte, and the startup is still waited for.
-abbrev pub Opens : Users → List ℕ → List ℕ → Startup → List ℕ → Stage → Type 0
+abbrev pub Opens : Users → List ℕ → List ℕ → Startup → List ℕ → AuthenticationStage → Type 0
 Opens users nonce text (Session parameters) said next = Asks users nonce text (named_user (value_of (codes "user") parameters)) said next
 Opens users nonce text Ssl said next = Says (codes "N") Fresh said next
 Opens users nonce text Gss said next = Says (codes "N") Fresh said next
 Opens users nonce text (Cancel process key) said next = Says [] Closed said next
 
 -- a challenge, the end of the exchange by a right proof, or why there is none
-abbrev pub Replies : Opening → Result Reply ExchangeFault → List ℕ → Stage → Type 0
+abbrev pub Replies : StartupUser → Result Reply ExchangeFault → List ℕ → AuthenticationStage → Type 0
 Replies opening (Ok (Continue text login)) said next = Says (sasl_continue text) (Asked (record { opening = opening; login = login })) said next
 Replies opening (Ok (Final text)) said next = Says (sasl_final text) (Passed opening) said next
 Replies opening (Err fault) said next = Says (failed fault opening.user) Closed said next
 
 -- A turn from one stage to the next. Its text is one startup, or one message of the exchange, or it begins with what is neither: then
 -- the connection closes, and all that follows is passed over. Where the user is let in, no more is taken.
-abbrev pub IsTurn : Users → List ℕ → Stage → List ℕ → List ℕ → Stage → Type 0
+abbrev pub IsTurn : Users → List ℕ → AuthenticationStage → List ℕ → List ℕ → AuthenticationStage → Type 0
 IsTurn users nonce Fresh text said next =
     ((startup : Startup) × SpellsStartup text startup × Opens users nonce text startup said next)
     ⊎ ((fault : FrameFault) × (framed_startup text ≡ Err fault) × Says (error_of_refusal (refusal_of fault)) Closed said next)
@@ -73,14 +73,14 @@ IsTurn users nonce (Passed opening) text said next = ⊥
 IsTurn users nonce Closed text said next = Says [] Closed said next
 
 -- No startup and no message stands whole at the front. Once the connection is closed, nothing is left.
-abbrev pub Waits : Stage → List ℕ → Type 0
+abbrev pub Waits : AuthenticationStage → List ℕ → Type 0
 Waits Fresh rest = framed_startup rest ≡ Ok None
 Waits (Asked asking) rest = framed_password rest ≡ Ok None
 Waits (Passed opening) rest = Unit {0}
 Waits Closed rest = rest ≡ []
 
 -- Either nothing is whole and nothing changes, or a turn took the front of what was pending.
-abbrev pub IsTurned : Users → List ℕ → Stage → List ℕ → Turned → List ℕ → List ℕ → Type 0
+abbrev pub IsTurned : Users → List ℕ → AuthenticationStage → List ℕ → AuthenticationTurn → List ℕ → List ℕ → Type 0
 IsTurned users nonce stage pending t out out' =
     ((t.count ≡ 0) × (t.stage ≡ stage) × Waits stage pending × (out' ≡ out))
     ⊎ ((0 < t.count) × (t.count ≤ length pending) × (said : List ℕ) × IsTurn users nonce stage (take t.count pending) said t.stage × (out' ≡ out ++ said))
@@ -94,13 +94,13 @@ pub record Turn : Type 0 where
   pub users : Users
 
 -- one turn after the other, by one nonce
-abbrev pub AreTurns : List ℕ → Stage → List Turn → Stage → Type 0
+abbrev pub AreTurns : List ℕ → AuthenticationStage → List Turn → AuthenticationStage → Type 0
 AreTurns nonce old [] new = new ≡ old
-AreTurns nonce old (t ∷ ts) new = (mid : Stage) × IsTurn t.users nonce old t.text t.said mid × AreTurns nonce mid ts new
+AreTurns nonce old (t ∷ ts) new = (mid : AuthenticationStage) × IsTurn t.users nonce old t.text t.said mid × AreTurns nonce mid ts new
 
 -- The startup names the user, and a message proves that its sender knows the key whose digest is kept of that user. Both nonces stand
 -- in what is signed, the server's at the end.
-pub record IsProved (nonce : List ℕ) (opening : Opening) : Type 0 where
+pub record IsProved (nonce : List ℕ) (opening : StartupUser) : Type 0 where
   pub users : Users
   pub parameters : List Parameter
   pub spells : SpellsStartup opening.startup (Session parameters)

@@ -6,18 +6,18 @@ ghost use Rattle.server.specs.Segment.{Ended, HasCause, UnlessMemory, Went};
 ghost use Rattle.server.specs.declared.stages.stage.Stage.TheVariants.{Fresh as Unopened};
 ghost use Rattle.authentication.specs.Guarding.{Guards, Hears, IsAuthenticated, IsNew, LetsIn, guarded_phase, is_closed};
 
-use crate::stage::{Opening, Stage, Turned};
+use crate::stage::{AuthenticationStage, AuthenticationTurn, StartupUser};
 use crate::turn::{Guarding, turn};
 use crate::users::Users;
 use bytes::BytesMut;
 use pqformat::{Items, Text};
-use server::{Backend, ConnFault, Connection, Phase, Service};
+use server::{Backend, ConnFault, Connection, ConnectionTerms, Phase};
 use std::alloc::{AllocError, Global};
 
 /// What stands before a connection until its user is let in.
 #[derive(Drop)]
 pub(crate) struct Guard {
-    pub stage: Stage,
+    pub stage: AuthenticationStage,
     /// What has come and isn't answered yet.
     pub pending: BytesMut,
     /// By which the user is asked: new and random, printable, and without a comma.
@@ -38,7 +38,7 @@ pub struct GuardedConnection {
 
 impl GuardedConnection {
     /// A connection that is served so, and asks for no password.
-    pub fn open(alloc: Global, service: Service) -> Self
+    pub fn open(alloc: Global, service: ConnectionTerms) -> Self
         ensures guard { result.guard ≡ None }
         ensures service { result.connection.service ≡ service }
         ensures stage { result.connection.stage ≡ Unopened }
@@ -54,7 +54,7 @@ impl GuardedConnection {
 
     /// A connection that is served so once its user has proved its password. The nonce is to be new and random, printable, and
     /// without a comma.
-    pub fn guarded(alloc: Global, service: Service, nonce: Items<u8>) -> Self
+    pub fn guarded(alloc: Global, service: ConnectionTerms, nonce: Items<u8>) -> Self
         ensures guard { IsNew nonce result.guard }
         ensures service { result.connection.service ≡ service }
         ensures stage { result.connection.stage ≡ Unopened }
@@ -63,7 +63,7 @@ impl GuardedConnection {
         GuardedConnection {
             alloc,
             guard: Some(Guard {
-                stage: Stage::Fresh,
+                stage: AuthenticationStage::Fresh,
                 pending: BytesMut::new(alloc),
                 nonce,
             }),
@@ -155,7 +155,13 @@ impl GuardedConnection {
             users,
             nonce: nonce.as_slice(),
         };
-        let Turned { stage, count } = turn(self.alloc, guarding, stage, pending.as_slice(), out)?;
+        let AuthenticationTurn { stage, count } = turn(
+            self.alloc,
+            guarding,
+            stage,
+            pending.as_slice(),
+            out,
+        )?;
         pending.advance(count);
         self.stand(Guard {
             stage,
@@ -177,14 +183,23 @@ impl GuardedConnection {
             nonce,
         } = guard;
         match stage {
-            Stage::Passed(opening) => self.let_in(opening, pending.as_slice()),
-            Stage::Fresh => self.keep(Stage::Fresh, pending, nonce),
-            Stage::Asked(asking) => self.keep(Stage::Asked(asking), pending, nonce),
-            Stage::Closed => self.keep(Stage::Closed, pending, nonce),
+            AuthenticationStage::Passed(opening) => self.let_in(opening, pending.as_slice()),
+            AuthenticationStage::Fresh => self.keep(AuthenticationStage::Fresh, pending, nonce),
+            AuthenticationStage::Asked(asking) => self.keep(
+                AuthenticationStage::Asked(asking),
+                pending,
+                nonce,
+            ),
+            AuthenticationStage::Closed => self.keep(AuthenticationStage::Closed, pending, nonce),
         }
     }
 
-    fn keep(&mut self, stage: Stage, pending: BytesMut, nonce: Items<u8>) -> Result<(), AllocError>
+    fn keep(
+        &mut self,
+        stage: AuthenticationStage,
+        pending: BytesMut,
+        nonce: Items<u8>,
+    ) -> Result<(), AllocError>
         ensures { OnOk result (Guards stage pending.items nonce self.old.connection self.new) }
     {
         self.guard = Some(Guard {
@@ -196,12 +211,12 @@ impl GuardedConnection {
     }
 
     /// The connection hears the startup, and what came after the proof.
-    fn let_in(&mut self, opening: Opening, rest: &[u8]) -> Result<(), AllocError>
+    fn let_in(&mut self, opening: StartupUser, rest: &[u8]) -> Result<(), AllocError>
         ensures { OnOk result
             ((self.new.guard ≡ self.old.guard) × (self.new.user ≡ Some opening.user)
             × Hears self.old.connection (opening.startup ++ rest.now) self.new.connection) }
     {
-        let Opening { startup, user } = opening;
+        let StartupUser { startup, user } = opening;
         self.connection.push(startup.as_slice())?;
         self.connection.push(rest)?;
         self.user = Some(user);
@@ -213,7 +228,7 @@ impl GuardedConnection {
         ensures { guarded_phase self.new.guard self.new.connection.stage ≡ Phase.Closed }
     {
         self.guard = Some(Guard {
-            stage: Stage::Closed,
+            stage: AuthenticationStage::Closed,
             pending: BytesMut::new(self.alloc),
             nonce: Items::new(Vec::new(self.alloc)),
         });
@@ -253,8 +268,8 @@ impl GuardedConnection {
     }
 }
 
-fn is_closed(stage: &Stage) -> bool
+fn is_closed(stage: &AuthenticationStage) -> bool
     ensures { result ≡ is_closed stage.now }
 {
-    matches!(stage, Stage::Closed)
+    matches!(stage, AuthenticationStage::Closed)
 }

@@ -23,5 +23,5 @@ pub use nonce::{NONCE_BYTES, nonce_of};
 pub use password_message::{MOST_PASSWORD_BYTES, PASSWORD};
 pub use sasl::AUTHENTICATION;
 pub use turn::passes_only_by_proof;
-pub use user_lines::{BadLine, LineFault, users_in};
+pub use user_lines::{BadUserLine, UserLineFault, users_in};
 pub use users::{SECRET_BYTES, User, Users};

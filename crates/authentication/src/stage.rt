@@ -5,7 +5,7 @@ use scram::Login;
 
 /// Who is let in, and by which startup.
 #[derive(Drop)]
-pub(crate) struct Opening {
+pub(crate) struct StartupUser {
     /// The startup, as it was spelled.
     pub startup: Items<u8>,
     /// The user that it names.
@@ -15,25 +15,25 @@ pub(crate) struct Opening {
 /// Who is asked for a proof, and how far that is.
 #[derive(Drop)]
 pub(crate) struct Asking {
-    pub opening: Opening,
+    pub opening: StartupUser,
     pub login: Login,
 }
 
 /// How far an authentication is.
 #[derive(Drop)]
-pub(crate) enum Stage {
+pub(crate) enum AuthenticationStage {
     /// The startup is waited for.
     Fresh,
     /// A message of the exchange is.
     Asked(Asking),
     /// The user of this startup has proved that it knows its password.
-    Passed(Opening),
+    Passed(StartupUser),
     Closed,
 }
 
 /// What a turn leaves: the stage, and how many of the pending bytes it took. None, if they have to wait for more.
 #[derive(Drop)]
-pub(crate) struct Turned {
-    pub stage: Stage,
+pub(crate) struct AuthenticationTurn {
+    pub stage: AuthenticationStage,
     pub count: usize,
 }

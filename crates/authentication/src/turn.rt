@@ -8,19 +8,19 @@ ghost use Rattle.server.specs.Said.{error_of_refusal};
 ghost use Rattle.server.specs.Turns.{refusal_of};
 ghost use Rattle.authentication.specs.Refusing.{fatal, not_a_message};
 ghost use Rattle.authentication.specs.Turns.{AreTurns, Asks, IsProved, IsTurned, Opens, Replies, Says, Turn, named_user};
-ghost use Rattle.authentication.specs.declared.stage.Opening.{Opening};
-ghost use Rattle.authentication.specs.declared.stage.Stage.TheVariants as stages;
-ghost use Rattle.authentication.specs.declared.stage.Stage.TheVariants.{Closed, Fresh, Passed};
+ghost use Rattle.authentication.specs.declared.stage.StartupUser.{StartupUser};
+ghost use Rattle.authentication.specs.declared.stage.AuthenticationStage.TheVariants as stages;
+ghost use Rattle.authentication.specs.declared.stage.AuthenticationStage.TheVariants.{Closed, Fresh, Passed};
 
 use crate::password_message::read_password;
 use crate::refusing::{say_failed, say_fatal};
 use crate::sasl::{say_continue, say_final, say_request};
-use crate::stage::{Asking, Opening, Stage, Turned};
+use crate::stage::{Asking, AuthenticationStage, AuthenticationTurn, StartupUser};
 use crate::users::Users;
 use bytes::BytesMut;
 use frames::{FrameFault, Parameter, Startup, read_startup};
 use pqformat::{Items, Text};
-use scram::{Asked, ExchangeFault, Login, Reply};
+use scram::{ExchangeFault, Login, ProofRequest, Reply};
 use server::{Refusal, say_refused};
 use std::alloc::{AllocError, Global};
 
@@ -63,7 +63,7 @@ fn ask(
     startup: &[u8],
     user: &str,
     out: &mut BytesMut,
-) -> Result<Stage, AllocError>
+) -> Result<AuthenticationStage, AllocError>
     ensures asks { IfOk result
         (λ next. (said : List ℕ)
         × Asks guarding.entry.users.now guarding.entry.nonce.now startup.now (Some user.now) said next
@@ -72,13 +72,13 @@ fn ask(
 {
     let account = guarding.users.account_of(alloc, user)?;
     let nonce = Items::new(Vec::from_slice(alloc, guarding.nonce)?);
-    let opening = Opening {
+    let opening = StartupUser {
         startup: Items::new(Vec::from_slice(alloc, startup)?),
         user: Text::copy_of(alloc, user)?,
     };
     say_request(out)?;
-    let login = Login::Offered(Asked { account, nonce });
-    Ok(Stage::Asked(Asking { opening, login }))
+    let login = Login::Offered(ProofRequest { account, nonce });
+    Ok(AuthenticationStage::Asked(Asking { opening, login }))
 }
 
 /// Answers a session's startup.
@@ -89,7 +89,7 @@ fn open_session(
     startup: &[u8],
     parameters: &[Parameter],
     out: &mut BytesMut,
-) -> Result<Stage, AllocError>
+) -> Result<AuthenticationStage, AllocError>
     ensures asks { IfOk result
         (λ next. (said : List ℕ)
         × Asks guarding.entry.users.now guarding.entry.nonce.now startup.now
@@ -106,20 +106,20 @@ fn open_session(
                 "28000",
                 "no PostgreSQL user name specified in startup packet",
             )?;
-            Ok(Stage::Closed)
+            Ok(AuthenticationStage::Closed)
         }
     }
 }
 
 /// Declines encryption (PostgreSQL 15, 55.2.10 and 55.2.11).
 #[tactic(auto, using(pqformat::proofs::Putting::in_place))]
-fn decline(out: &mut BytesMut) -> Result<Stage, AllocError>
+fn decline(out: &mut BytesMut) -> Result<AuthenticationStage, AllocError>
     ensures fresh { IfOk result (λ next. next ≡ Fresh) }
     ensures says { IfOk result (λ _. out.new.items ≡ out.old.items ++ codes "N") }
     ensures kept { OnErr result (Extends out.old.items out.new.items) }
 {
     out.extend_from_slice(b"N")?;
-    Ok(Stage::Fresh)
+    Ok(AuthenticationStage::Fresh)
 }
 
 #[tactic(auto, using(pqformat::proofs::Putting::in_place))]
@@ -129,7 +129,7 @@ fn answer_startup(
     text: &[u8],
     startup: &Startup,
     out: &mut BytesMut,
-) -> Result<Stage, AllocError>
+) -> Result<AuthenticationStage, AllocError>
     ensures opens { IfOk result
         (λ next. (said : List ℕ)
         × Opens guarding.entry.users.now guarding.entry.nonce.now text.now startup.now said next
@@ -141,7 +141,7 @@ fn answer_startup(
             open_session(alloc, guarding, text, parameters.as_slice(), out)
         }
         Startup::Ssl | Startup::Gss => decline(out),
-        Startup::Cancel(_, _) => Ok(Stage::Closed),
+        Startup::Cancel(_, _) => Ok(AuthenticationStage::Closed),
     }
 }
 
@@ -152,7 +152,7 @@ fn refuse_startup(
     fault: FrameFault,
     pending: &[u8],
     out: &mut BytesMut,
-) -> Result<Turned, AllocError>
+) -> Result<AuthenticationTurn, AllocError>
     ensures readable { IfOk result (λ _. fault ≢ FrameFault.Memory) }
     ensures closes { IfOk result
         (λ t. t ≡ record { stage = Closed; count = length pending.now }) }
@@ -165,8 +165,8 @@ fn refuse_startup(
         FrameFault::BadVersion => say_refused(alloc, out, Refusal::Version)?,
         _ => say_refused(alloc, out, Refusal::Violation)?,
     }
-    Ok(Turned {
-        stage: Stage::Closed,
+    Ok(AuthenticationTurn {
+        stage: AuthenticationStage::Closed,
         count: pending.len(),
     })
 }
@@ -178,20 +178,20 @@ fn turn_startup(
     guarding: Guarding<'_>,
     pending: &[u8],
     out: &mut BytesMut,
-) -> Result<Turned, AllocError>
+) -> Result<AuthenticationTurn, AllocError>
     ensures turned { IfOk result
         (λ t. IsTurned guarding.entry.users.now guarding.entry.nonce.now Fresh pending.now t out.old.items
         out.new.items) }
     ensures kept { OnErr result (Extends out.old.items out.new.items) }
 {
     match read_startup(alloc, pending) {
-        Ok(None) => Ok(Turned {
-            stage: Stage::Fresh,
+        Ok(None) => Ok(AuthenticationTurn {
+            stage: AuthenticationStage::Fresh,
             count: 0,
         }),
         Ok(Some((startup, count))) => {
             let stage = answer_startup(alloc, guarding, &pending[..count], &startup, out)?;
-            Ok(Turned { stage, count })
+            Ok(AuthenticationTurn { stage, count })
         }
         Err(fault) => refuse_startup(alloc, fault, pending, out),
     }
@@ -204,7 +204,7 @@ fn answer_message(
     asking: Asking,
     body: &[u8],
     out: &mut BytesMut,
-) -> Result<Stage, AllocError>
+) -> Result<AuthenticationStage, AllocError>
     ensures replies { IfOk result
         (λ next. (said : List ℕ)
         × Replies asking.opening (answer_to asking.login body.now) said next
@@ -215,16 +215,16 @@ fn answer_message(
     match login.answer(alloc, body) {
         Ok(Reply::Continue(text, login)) => {
             say_continue(out, text.as_slice())?;
-            Ok(Stage::Asked(Asking { opening, login }))
+            Ok(AuthenticationStage::Asked(Asking { opening, login }))
         }
         Ok(Reply::Final(text)) => {
             say_final(out, text.as_slice())?;
-            Ok(Stage::Passed(opening))
+            Ok(AuthenticationStage::Passed(opening))
         }
         Err(ExchangeFault::Memory) => Err(AllocError),
         Err(fault) => {
             say_failed(alloc, out, fault, opening.user.as_str())?;
-            Ok(Stage::Closed)
+            Ok(AuthenticationStage::Closed)
         }
     }
 }
@@ -267,25 +267,25 @@ fn turn_exchange(
     asking: Asking,
     pending: &[u8],
     out: &mut BytesMut,
-) -> Result<Turned, AllocError>
+) -> Result<AuthenticationTurn, AllocError>
     ensures turned { IfOk result
         (λ t. IsTurned guarding.entry.users.now guarding.entry.nonce.now (stages.Asked asking) pending.now t
         out.old.items out.new.items) }
     ensures kept { OnErr result (Extends out.old.items out.new.items) }
 {
     match read_password(pending) {
-        Ok(None) => Ok(Turned {
-            stage: Stage::Asked(asking),
+        Ok(None) => Ok(AuthenticationTurn {
+            stage: AuthenticationStage::Asked(asking),
             count: 0,
         }),
         Ok(Some((body, count))) => {
             let stage = answer_message(alloc, asking, body, out)?;
-            Ok(Turned { stage, count })
+            Ok(AuthenticationTurn { stage, count })
         }
         Err(fault) => {
             refuse_message(alloc, fault, asking.opening.user.as_str(), out)?;
-            Ok(Turned {
-                stage: Stage::Closed,
+            Ok(AuthenticationTurn {
+                stage: AuthenticationStage::Closed,
                 count: pending.len(),
             })
         }
@@ -297,24 +297,24 @@ fn turn_exchange(
 pub(crate) fn turn(
     alloc: Global,
     guarding: Guarding<'_>,
-    stage: Stage,
+    stage: AuthenticationStage,
     pending: &[u8],
     out: &mut BytesMut,
-) -> Result<Turned, AllocError>
+) -> Result<AuthenticationTurn, AllocError>
     ensures turned { IfOk result
         (λ t. IsTurned guarding.entry.users.now guarding.entry.nonce.now stage pending.now t out.old.items
         out.new.items) }
     ensures kept { OnErr result (Extends out.old.items out.new.items) }
 {
     match stage {
-        Stage::Fresh => turn_startup(alloc, guarding, pending, out),
-        Stage::Asked(asking) => turn_exchange(alloc, guarding, asking, pending, out),
-        Stage::Passed(opening) => Ok(Turned {
-            stage: Stage::Passed(opening),
+        AuthenticationStage::Fresh => turn_startup(alloc, guarding, pending, out),
+        AuthenticationStage::Asked(asking) => turn_exchange(alloc, guarding, asking, pending, out),
+        AuthenticationStage::Passed(opening) => Ok(AuthenticationTurn {
+            stage: AuthenticationStage::Passed(opening),
             count: 0,
         }),
-        Stage::Closed => Ok(Turned {
-            stage: Stage::Closed,
+        AuthenticationStage::Closed => Ok(AuthenticationTurn {
+            stage: AuthenticationStage::Closed,
             count: pending.len(),
         }),
     }
@@ -323,6 +323,6 @@ pub(crate) fn turn(
 /// The law of an authentication: whatever was said and answered from the startup on, a user is let in only where the client
 /// proved that it knows the key of the user that the startup names.
 pub fn passes_only_by_proof()
-    ensures { (nonce : List ℕ) (turns : List Turn) (opening : Opening) →
+    ensures { (nonce : List ℕ) (turns : List Turn) (opening : StartupUser) →
         AreTurns nonce Fresh turns (Passed opening) → IsProved nonce opening }
 {}

@@ -8,10 +8,10 @@ use Rattle.toml.specs.View.{view, items_view}
 use Rattle.toml.specs.declared.value.Value.{Value}
 use Rattle.tables.specs.declared.column.Column.{Column}
 use Rattle.tables.specs.declared.table.Table.{Table}
-use Rattle.catalog.specs.declared.config_fault.Misfit.{Misfit}
+use Rattle.catalog.specs.declared.config_fault.CatalogMisfit.{CatalogMisfit}
 use Rattle.catalog.specs.declared.config_fault.CatalogFault.{CatalogFault}
 use Rattle.catalog.specs.declared.config_fault.CatalogFault.TheVariants as faults
-use Rattle.catalog.specs.Config.{ReadsTables, and_then, another_name, names_behind, next_column, columns_behind, next_table, tables_behind}
+use Rattle.catalog.specs.Config.{ReadsTables, and_then, another_name, names_behind, next_column, columns_after, next_table, tables_after}
 
 pub item_next : {R : Type 0} (behind : Items → R) (values : List Value) (i : ℕ) (value : Value) →
     i < length values → value ≡ get_or values i value →
@@ -25,19 +25,19 @@ pub no_more_items : {R : Type 0} (behind : Items → R) (values : List Value) (i
 no_more_items behind values i all = at_drop_all (λ vs. behind (items_view vs)) values i all
 
 pub table_read : (tables : List Table) (d : Data) (ds : Items) (t : Table) →
-    next_table tables d ≡ Ok t → tables_behind tables (item d ds) ≡ tables_behind (tables ++ t ∷ []) ds
-table_read tables d ds t read = ap (λ r. r >>= λ t. tables_behind (tables ++ t ∷ []) ds) read
+    next_table tables d ≡ Ok t → tables_after tables (item d ds) ≡ tables_after (tables ++ t ∷ []) ds
+table_read tables d ds t read = ap (λ r. r >>= λ t. tables_after (tables ++ t ∷ []) ds) read
 
 -- what keeps the next table from being read keeps them all
-pub table_refused : (tables : List Table) (d : Data) (ds : Items) (fault : CatalogFault) (total : Result (List Table) Misfit) →
-    ReadsTables {X = Table} (Err fault) (next_table tables d) → tables_behind tables (item d ds) ≡ total → ReadsTables {X = List Table} (Err fault) total
-table_refused tables d ds (faults.BadTables misfit) total refused so_far = sym so_far ∙ ap (λ r. r >>= λ t. tables_behind (tables ++ t ∷ []) ds) refused
+pub table_refused : (tables : List Table) (d : Data) (ds : Items) (fault : CatalogFault) (total : Result (List Table) CatalogMisfit) →
+    ReadsTables {X = Table} (Err fault) (next_table tables d) → tables_after tables (item d ds) ≡ total → ReadsTables {X = List Table} (Err fault) total
+table_refused tables d ds (faults.BadTables misfit) total refused so_far = sym so_far ∙ ap (λ r. r >>= λ t. tables_after (tables ++ t ∷ []) ds) refused
 table_refused tables d ds (faults.NotToml line) total refused so_far = absurd refused
 table_refused tables d ds faults.Memory total refused so_far = tt
 
 pub column_read : (key : List (List ℕ)) (columns : List Column) (d : Data) (ds : Items) (column : Column) →
-    next_column key columns d ≡ Some column → columns_behind key columns (item d ds) ≡ columns_behind key (columns ++ column ∷ []) ds
-column_read key columns d ds column read = ap (λ r. and_then r (λ column. columns_behind key (columns ++ column ∷ []) ds)) read
+    next_column key columns d ≡ Some column → columns_after key columns (item d ds) ≡ columns_after key (columns ++ column ∷ []) ds
+column_read key columns d ds column read = ap (λ r. and_then r (λ column. columns_after key (columns ++ column ∷ []) ds)) read
 
 pub name_read : (names : List (List ℕ)) (d : Data) (ds : Items) (name : List ℕ) →
     another_name names d ≡ Some name → names_behind names (item d ds) ≡ names_behind (names ++ name ∷ []) ds

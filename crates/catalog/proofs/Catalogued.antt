@@ -7,7 +7,7 @@ use Rattle.std.proofs.lemmas.Bool.{eqb-true}
 use Rattle.std.proofs.lemmas.List.Folds.{list_any-append}
 use Rattle.std.proofs.lemmas.Slice.Eq.{bytes_eq-Decides}
 use Rattle.tables.specs.declared.table.Table.{Table}
-use Rattle.catalog.specs.declared.config_fault.Member.TheVariants as members
+use Rattle.catalog.specs.declared.config_fault.CatalogMember.TheVariants as members
 use Rattle.catalog.specs.Config.{clash}
 use Rattle.tables.specs.Tables.{AreCatalogued, IsTable, has_namesakes, is_namesake, oids_of, repeats}
 use Rattle.catalog.proofs.Behind.{all_with}

@@ -12,17 +12,17 @@ use Rattle.tables.specs.declared.identity.Identity.{Identity}
 use Rattle.tables.specs.declared.identity.Identity.TheVariants as identities
 use Rattle.tables.specs.declared.column.Column.{Column}
 use Rattle.tables.specs.declared.table.Table.{Table}
-use Rattle.catalog.specs.declared.config_fault.Member.{Member}
-use Rattle.catalog.specs.declared.config_fault.Member.TheVariants as members
-use Rattle.catalog.specs.declared.config_fault.Misfit.{Misfit}
-use Rattle.catalog.specs.declared.config_fault.Misfit.TheVariants as misfits
+use Rattle.catalog.specs.declared.config_fault.CatalogMember.{CatalogMember}
+use Rattle.catalog.specs.declared.config_fault.CatalogMember.TheVariants as members
+use Rattle.catalog.specs.declared.config_fault.CatalogMisfit.{CatalogMisfit}
+use Rattle.catalog.specs.declared.config_fault.CatalogMisfit.TheVariants as misfits
 use Rattle.catalog.specs.declared.config_fault.CatalogFault.{CatalogFault}
 use Rattle.catalog.specs.declared.config_fault.CatalogFault.TheVariants as faults
 use Rattle.catalog.specs.declared.config.TheConstants.{MAX_TABLES}
 use Rattle.tables.specs.declared.table.TheConstants.{MAX_COLUMNS}
 use Rattle.catalog.specs.declared.config_member.TheConstants.{MAX_OID}
-use Rattle.catalog.specs.declared.config_table.Unread.{Unread}
-use Rattle.catalog.specs.declared.config_table.Unread.TheVariants as unread
+use Rattle.catalog.specs.declared.config_table.UnreadTable.{UnreadTable}
+use Rattle.catalog.specs.declared.config_table.UnreadTable.TheVariants as unread
 use Rattle.tables.specs.Kinds.{identifies, kind_named}
 use Rattle.tables.specs.Tables.{is_name, is_namesake}
 
@@ -91,12 +91,12 @@ another_column key columns d =
 unfoldable pub next_column : List (List ℕ) → List Column → Data → Option Column
 next_column key columns d = if nat_lt (length columns) MAX_COLUMNS then another_column key columns d else None
 
-abbrev pub columns_behind : List (List ℕ) → List Column → Items → Option (List Column)
-columns_behind key columns no_items = Some columns
-columns_behind key columns (item d ds) = and_then (next_column key columns d) (λ column. columns_behind key (columns ++ column ∷ []) ds)
+abbrev pub columns_after : List (List ℕ) → List Column → Items → Option (List Column)
+columns_after key columns no_items = Some columns
+columns_after key columns (item d ds) = and_then (next_column key columns d) (λ column. columns_after key (columns ++ column ∷ []) ds)
 
 unfoldable pub columns_in : List (List ℕ) → Data → Option (List Column)
-columns_in key d = and_then (as_array d) (λ ds. and_then (columns_behind key [] ds) unless_empty)
+columns_in key d = and_then (as_array d) (λ ds. and_then (columns_after key [] ds) unless_empty)
 
 -- the member of this name, where it is there and is read so
 abbrev pub told_member : {M X : Type 0} → M → List ℕ → (Data → Option X) → Data → Result X M
@@ -119,13 +119,13 @@ abbrev pub is_identifying : List Column → Bool
 is_identifying columns = list_all (λ column. not column.is_key || identifies column.kind) columns
 
 -- the columns, of which some have the names of the key
-unfoldable pub columns_at : Data → Result (List Column) Member
+unfoldable pub columns_at : Data → Result (List Column) CatalogMember
 columns_at d = do
   key ← told_member members.Key (codes "key") names_in d
   columns ← told_member members.Columns (codes "columns") (columns_in key) d
   if list_all (is_column columns) key && is_identifying columns then Ok columns else Err members.Key
 
-unfoldable pub table_in : Data → Result Table Member
+unfoldable pub table_in : Data → Result Table CatalogMember
 table_in d = do
   oid ← told_member members.Oid (codes "oid") oid_in d
   schema ← told_member members.Schema (codes "schema") name_in d
@@ -136,53 +136,53 @@ table_in d = do
       else Ok (record { oid = oid; schema = schema; name = name; identity = identity; columns = columns })
 
 -- what reading a table or a part of it answers, memory apart
-abbrev pub Reads : {X : Type 0} → Result X Unread → Result X Member → Type 0
+abbrev pub Reads : {X : Type 0} → Result X UnreadTable → Result X CatalogMember → Type 0
 Reads (Ok x) read = read ≡ Ok x
 Reads (Err (unread.Wrong which)) read = read ≡ Err which
 Reads (Err unread.Memory) read = Unit {0}
 
 -- the OID or the name of the table is that of another
-abbrev pub clash : List Table → Table → Option Member
+abbrev pub clash : List Table → Table → Option CatalogMember
 clash tables t =
     if list_any (λ u. u.oid == t.oid) tables then Some members.Oid
     else if list_any (λ u. is_namesake u t) tables then Some members.Name
     else None
 
-abbrev pub unless_clash : Table → Option Member → Result Table Member
+abbrev pub unless_clash : Table → Option CatalogMember → Result Table CatalogMember
 unless_clash t None = Ok t
 unless_clash t (Some which) = Err which
 
 -- a table that has neither the OID nor the name of another
-unfoldable pub another_table : List Table → Data → Result Table Member
+unfoldable pub another_table : List Table → Data → Result Table CatalogMember
 another_table tables d = table_in d >>= λ t. unless_clash t (clash tables t)
 
-abbrev pub numbered : {X : Type 0} → ℕ → Result X Member → Result X Misfit
+abbrev pub numbered : {X : Type 0} → ℕ → Result X CatalogMember → Result X CatalogMisfit
 numbered n (Ok x) = Ok x
 numbered n (Err which) = Err (misfits.Table n which)
 
 -- the next table, where there is room for one more
-unfoldable pub next_table : List Table → Data → Result Table Misfit
+unfoldable pub next_table : List Table → Data → Result Table CatalogMisfit
 next_table tables d =
     if nat_lt (length tables) MAX_TABLES then numbered (length tables + 1) (another_table tables d) else Err misfits.TooMany
 
 -- the tables of a list, in its order
-abbrev pub tables_behind : List Table → Items → Result (List Table) Misfit
-tables_behind tables no_items = Ok tables
-tables_behind tables (item d ds) = next_table tables d >>= λ t. tables_behind (tables ++ t ∷ []) ds
+abbrev pub tables_after : List Table → Items → Result (List Table) CatalogMisfit
+tables_after tables no_items = Ok tables
+tables_after tables (item d ds) = next_table tables d >>= λ t. tables_after (tables ++ t ∷ []) ds
 
-abbrev pub tables_of : Option Data → Result (List Table) Misfit
+abbrev pub tables_of : Option Data → Result (List Table) CatalogMisfit
 tables_of None = Ok []
-tables_of (Some d) = ok_or (as_array d) misfits.NoList >>= λ ds. tables_behind [] ds
+tables_of (Some d) = ok_or (as_array d) misfits.NoList >>= λ ds. tables_after [] ds
 
 -- what reading tables answers, memory apart
-abbrev pub ReadsTables : {X : Type 0} → Result X CatalogFault → Result X Misfit → Type 0
+abbrev pub ReadsTables : {X : Type 0} → Result X CatalogFault → Result X CatalogMisfit → Type 0
 ReadsTables (Ok x) read = read ≡ Ok x
 ReadsTables (Err (faults.BadTables misfit)) read = read ≡ Err misfit
 ReadsTables (Err (faults.NotToml line)) read = ⊥
 ReadsTables (Err faults.Memory) read = Unit {0}
 
 -- the tables of a document
-abbrev pub tables_in : Data → Result (List Table) Misfit
+abbrev pub tables_in : Data → Result (List Table) CatalogMisfit
 tables_in d = tables_of (get (codes "table") d)
 
 -- what a TOML text says, as one table of its members; None where it is no TOML
@@ -197,11 +197,11 @@ ReadsDocument (Err (faults.BadTables misfit)) read = ⊥
 ReadsDocument (Err faults.Memory) read = Unit {0}
 
 -- the tables that a text names
-abbrev pub named_by : List ℕ → Option (Result (List Table) Misfit)
+abbrev pub named_by : List ℕ → Option (Result (List Table) CatalogMisfit)
 named_by text = option_map tables_in (document_of text)
 
 -- What a reader answers is what the text names, memory apart.
-abbrev pub Names : Result (List Table) CatalogFault → Option (Result (List Table) Misfit) → Type 0
+abbrev pub Names : Result (List Table) CatalogFault → Option (Result (List Table) CatalogMisfit) → Type 0
 Names (Ok tables) named = named ≡ Some (Ok tables)
 Names (Err (faults.NotToml line)) named = named ≡ None
 Names (Err (faults.BadTables misfit)) named = named ≡ Some (Err misfit)

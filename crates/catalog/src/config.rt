@@ -3,12 +3,12 @@
 ghost use Rattle.std.specs.Prelude.{◌≡◌, ◌==◌, [], IfOk, None, option_map};
 ghost use Rattle.std.specs.List.{list_any};
 ghost use Rattle.toml.specs.View.{view, items_view};
-ghost use Rattle.catalog.specs.Config.{Names, Reads, ReadsTables, another_table, clash, named_by, next_table, tables_behind, tables_in, tables_of};
+ghost use Rattle.catalog.specs.Config.{Names, Reads, ReadsTables, another_table, clash, named_by, next_table, tables_after, tables_in, tables_of};
 ghost use Rattle.tables.specs.Tables.{AreCatalogued, IsTable, is_namesake};
 
 use crate::catalog::Catalog;
-use crate::config_fault::{CatalogFault, Member, Misfit};
-use crate::config_table::{Unread, table_in};
+use crate::config_fault::{CatalogFault, CatalogMember, CatalogMisfit};
+use crate::config_table::{UnreadTable, table_in};
 use crate::document::read_document;
 use pqformat::Items;
 use std::alloc::Global;
@@ -47,13 +47,13 @@ fn tables_of(alloc: Global, member: Option<&Value>) -> Result<Items<Table>, Cata
         return Ok(Items::new(Vec::new(alloc)));
     };
     let Some(values) = value.as_array() else {
-        return Err(CatalogFault::BadTables(Misfit::NoList));
+        return Err(CatalogFault::BadTables(CatalogMisfit::NoList));
     };
-    tables_behind(alloc, values.as_slice())
+    tables_after(alloc, values.as_slice())
 }
 
-fn tables_behind(alloc: Global, values: &[Value]) -> Result<Items<Table>, CatalogFault>
-    ensures value { ReadsTables result (tables_behind [] (items_view values.now)) }
+fn tables_after(alloc: Global, values: &[Value]) -> Result<Items<Table>, CatalogFault>
+    ensures value { ReadsTables result (tables_after [] (items_view values.now)) }
     ensures fits { IfOk result AreCatalogued }
 {
     let mut tables = Vec::new(alloc);
@@ -72,40 +72,40 @@ fn next_table(alloc: Global, tables: &[Table], value: &Value) -> Result<Table, C
     ensures alone { IfOk result (λ t. clash tables.now t ≡ None) }
 {
     if tables.len() >= MAX_TABLES {
-        return Err(CatalogFault::BadTables(Misfit::TooMany));
+        return Err(CatalogFault::BadTables(CatalogMisfit::TooMany));
     }
     match another_table(alloc, tables, value) {
         Ok(table) => Ok(table),
-        Err(Unread::Wrong(member)) => {
-            let misfit = Misfit::Table(tables.len() + 1, member);
+        Err(UnreadTable::Wrong(member)) => {
+            let misfit = CatalogMisfit::Table(tables.len() + 1, member);
             Err(CatalogFault::BadTables(misfit))
         }
-        Err(Unread::Memory) => Err(CatalogFault::Memory),
+        Err(UnreadTable::Memory) => Err(CatalogFault::Memory),
     }
 }
 
 #[tactic(auto, unfolding(crate::specs::Config::another_table))]
-fn another_table(alloc: Global, tables: &[Table], value: &Value) -> Result<Table, Unread>
+fn another_table(alloc: Global, tables: &[Table], value: &Value) -> Result<Table, UnreadTable>
     ensures value { Reads result (another_table tables.now (view value.now)) }
     ensures fits { IfOk result IsTable }
     ensures alone { IfOk result (λ t. clash tables.now t ≡ None) }
 {
     let table = table_in(alloc, value)?;
     match clash(tables, &table) {
-        Some(member) => Err(Unread::Wrong(member)),
+        Some(member) => Err(UnreadTable::Wrong(member)),
         None => Ok(table),
     }
 }
 
 /// The member by which a table is another one.
-fn clash(tables: &[Table], table: &Table) -> Option<Member>
+fn clash(tables: &[Table], table: &Table) -> Option<CatalogMember>
     ensures { result ≡ clash tables.now table.now }
 {
     if has_oid(tables, table.oid) {
-        return Some(Member::Oid);
+        return Some(CatalogMember::Oid);
     }
     if has_namesake(tables, table) {
-        return Some(Member::Name);
+        return Some(CatalogMember::Name);
     }
     None
 }

@@ -9,7 +9,7 @@ use thiserror::Error;
 
 /// A member of a table of a configuration.
 #[derive(Clone, Copy, Debug, PartialEq, Eq)]
-pub enum Member {
+pub enum CatalogMember {
     Oid,
     Schema,
     Name,
@@ -20,38 +20,39 @@ pub enum Member {
     Other,
 }
 
-impl fmt::Display for Member {
+impl fmt::Display for CatalogMember {
     fn fmt<W: fmt::Write>(&self, f: &mut fmt::Formatter<W>) -> fmt::Result {
         f.write_str(match self {
-            Member::Oid => "oid: a number from 1 to 4294967295 that no other table has",
-            Member::Schema => "schema: a name",
-            Member::Name => "name: a name that no other table of the schema has",
-            Member::Identity => "identity: default, nothing or full",
-            Member::Key => "key: a list of columns, each once",
-            Member::Columns =>
+            CatalogMember::Oid => "oid: a number from 1 to 4294967295 that no other table has",
+            CatalogMember::Schema => "schema: a name",
+            CatalogMember::Name => "name: a name that no other table of the schema has",
+            CatalogMember::Identity => "identity: default, nothing or full",
+            CatalogMember::Key => "key: a list of columns, each once",
+            CatalogMember::Columns =>
                 "columns: a list of 1 to 64 pairs of a name and a type, each name once",
-            Member::Other => "oid, schema, name, identity, key, columns, and no other member",
+            CatalogMember::Other =>
+                "oid, schema, name, identity, key, columns, and no other member",
         })
     }
 }
 
 /// What is wrong with the tables of a configuration.
 #[derive(Clone, Copy, Debug, PartialEq, Eq)]
-pub enum Misfit {
+pub enum CatalogMisfit {
     /// `table` is something else than a list.
     NoList,
     /// Over 256 tables.
     TooMany,
     /// This member of this table; the first table is number 1.
-    Table(usize, Member),
+    Table(usize, CatalogMember),
 }
 
-impl fmt::Display for Misfit {
+impl fmt::Display for CatalogMisfit {
     fn fmt<W: fmt::Write>(&self, f: &mut fmt::Formatter<W>) -> fmt::Result {
         match self {
-            Misfit::NoList => f.write_str("table is no list of tables"),
-            Misfit::TooMany => f.write_str("over 256 tables"),
-            Misfit::Table(number, member) => write!(f, "table {number} wants {member}"),
+            CatalogMisfit::NoList => f.write_str("table is no list of tables"),
+            CatalogMisfit::TooMany => f.write_str("over 256 tables"),
+            CatalogMisfit::Table(number, member) => write!(f, "table {number} wants {member}"),
         }
     }
 }
@@ -62,7 +63,7 @@ pub enum CatalogFault {
     #[error("N1: line {0} is no TOML")]
     NotToml(usize),
     #[error("N1: {0}")]
-    BadTables(Misfit),
+    BadTables(CatalogMisfit),
     #[error("N2: out of memory")]
     Memory,
 }

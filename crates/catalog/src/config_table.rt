@@ -5,14 +5,14 @@ ghost use Rattle.tables.specs.declared.table.TheConstants.{MAX_COLUMNS};
 ghost use Rattle.std.specs.List.{list_all};
 ghost use Rattle.toml.specs.Data.{get};
 ghost use Rattle.toml.specs.View.{view, items_view};
-ghost use Rattle.catalog.specs.declared.config_table.Unread.TheVariants.{Memory};
-ghost use Rattle.catalog.specs.Config.{another_column, columns_at, columns_behind, columns_in, has_others, identity_in, is_column, is_identifying, name_in, names_in, next_column, oid_in, pair_in, table_in, told_member, Reads};
+ghost use Rattle.catalog.specs.declared.config_table.UnreadTable.TheVariants.{Memory};
+ghost use Rattle.catalog.specs.Config.{another_column, columns_at, columns_after, columns_in, has_others, identity_in, is_column, is_identifying, name_in, names_in, next_column, oid_in, pair_in, table_in, told_member, Reads};
 ghost use Rattle.std.specs.Option.{ok_or};
-ghost use Rattle.catalog.specs.declared.config_fault.Member.TheVariants as members;
+ghost use Rattle.catalog.specs.declared.config_fault.CatalogMember.TheVariants as members;
 ghost use Rattle.tables.specs.Kinds.{identifies};
 ghost use Rattle.tables.specs.Tables.{AreColumns, IsName, IsTable};
 
-use crate::config_fault::Member;
+use crate::config_fault::CatalogMember;
 use crate::config_member::{
     identity_in, is_among, is_more_than, kind_in, name_in, names_in, oid_in, unless_empty,
 };
@@ -26,32 +26,32 @@ const REQUIRED: usize = 5;
 
 /// Why no table was read.
 #[derive(Clone, Copy)]
-pub(crate) enum Unread {
-    Wrong(Member),
+pub(crate) enum UnreadTable {
+    Wrong(CatalogMember),
     Memory,
 }
 
-impl From<AllocError> for Unread {
+impl From<AllocError> for UnreadTable {
     ghost from_gives = { λ _ e. e ≡ Memory };
 
-    fn from(_e: AllocError) -> Unread {
-        Unread::Memory
+    fn from(_e: AllocError) -> UnreadTable {
+        UnreadTable::Memory
     }
 }
 
 /// The table that a value names, or its first member that is wrong.
 #[tactic(auto, unfolding(crate::specs::Config::table_in))]
-pub(crate) fn table_in(alloc: Global, value: &Value) -> Result<Table, Unread>
+pub(crate) fn table_in(alloc: Global, value: &Value) -> Result<Table, UnreadTable>
     ensures value { Reads result (table_in (view value.now)) }
     ensures fits { IfOk result IsTable }
 {
     let oid = oid_at(value)?;
-    let schema = name_at(alloc, value, "schema", Member::Schema)?;
-    let name = name_at(alloc, value, "name", Member::Name)?;
+    let schema = name_at(alloc, value, "schema", CatalogMember::Schema)?;
+    let name = name_at(alloc, value, "name", CatalogMember::Name)?;
     let identity = identity_at(value)?;
     let columns = columns_at(alloc, value)?;
     if has_others(value) {
-        return Err(Unread::Wrong(Member::Other));
+        return Err(UnreadTable::Wrong(CatalogMember::Other));
     }
     Ok(Table {
         oid,
@@ -62,34 +62,39 @@ pub(crate) fn table_in(alloc: Global, value: &Value) -> Result<Table, Unread>
     })
 }
 
-fn oid_at(table: &Value) -> Result<u32, Unread>
+fn oid_at(table: &Value) -> Result<u32, UnreadTable>
     ensures { Reads result (told_member members.Oid (codes "oid") oid_in (view table.now)) }
 {
     let oid = table.get("oid").and_then(oid_in);
-    oid.ok_or(Unread::Wrong(Member::Oid))
+    oid.ok_or(UnreadTable::Wrong(CatalogMember::Oid))
 }
 
 /// The name in this member, which `which` tells where there is none.
-fn name_at(alloc: Global, table: &Value, member: &str, which: Member) -> Result<Text, Unread>
+fn name_at(
+    alloc: Global,
+    table: &Value,
+    member: &str,
+    which: CatalogMember,
+) -> Result<Text, UnreadTable>
     ensures value { Reads result (told_member which member.now name_in (view table.now)) }
     ensures named { IfOk result IsName }
 {
     match table.get(member).and_then(name_in) {
         Some(name) => Ok(Text::copy_of(alloc, name)?),
-        None => Err(Unread::Wrong(which)),
+        None => Err(UnreadTable::Wrong(which)),
     }
 }
 
-fn identity_at(table: &Value) -> Result<Identity, Unread>
+fn identity_at(table: &Value) -> Result<Identity, UnreadTable>
     ensures { Reads result
         (ok_or (identity_in (get (codes "identity") (view table.now))) members.Identity) }
 {
-    identity_in(table.get("identity")).ok_or(Unread::Wrong(Member::Identity))
+    identity_in(table.get("identity")).ok_or(UnreadTable::Wrong(CatalogMember::Identity))
 }
 
 /// The columns, of which some have the names of the key.
 #[tactic(auto, unfolding(crate::specs::Config::columns_at))]
-fn columns_at(alloc: Global, table: &Value) -> Result<Items<Column>, Unread>
+fn columns_at(alloc: Global, table: &Value) -> Result<Items<Column>, UnreadTable>
     ensures value { Reads result (columns_at (view table.now)) }
     ensures fits { IfOk result AreColumns }
 {
@@ -98,31 +103,31 @@ fn columns_at(alloc: Global, table: &Value) -> Result<Items<Column>, Unread>
     if are_columns(columns.as_slice(), key.as_slice()) && is_identifying(columns.as_slice()) {
         Ok(columns)
     } else {
-        Err(Unread::Wrong(Member::Key))
+        Err(UnreadTable::Wrong(CatalogMember::Key))
     }
 }
 
-fn key_at(alloc: Global, table: &Value) -> Result<Items<Text>, Unread>
+fn key_at(alloc: Global, table: &Value) -> Result<Items<Text>, UnreadTable>
     ensures { Reads result (told_member members.Key (codes "key") names_in (view table.now)) }
 {
     let Some(value) = table.get("key") else {
-        return Err(Unread::Wrong(Member::Key));
+        return Err(UnreadTable::Wrong(CatalogMember::Key));
     };
     let names = names_in(alloc, value)?;
-    names.ok_or(Unread::Wrong(Member::Key))
+    names.ok_or(UnreadTable::Wrong(CatalogMember::Key))
 }
 
 /// The columns beside a key of these names.
-fn columns_beside(alloc: Global, key: &[Text], table: &Value) -> Result<Items<Column>, Unread>
+fn columns_beside(alloc: Global, key: &[Text], table: &Value) -> Result<Items<Column>, UnreadTable>
     ensures value { Reads result
         (told_member members.Columns (codes "columns") (columns_in key.now) (view table.now)) }
     ensures fits { IfOk result AreColumns }
 {
     let Some(value) = table.get("columns") else {
-        return Err(Unread::Wrong(Member::Columns));
+        return Err(UnreadTable::Wrong(CatalogMember::Columns));
     };
     let columns = columns_in(alloc, key, value)?;
-    columns.ok_or(Unread::Wrong(Member::Columns))
+    columns.ok_or(UnreadTable::Wrong(CatalogMember::Columns))
 }
 
 fn are_columns(columns: &[Column], names: &[Text]) -> bool
@@ -177,7 +182,7 @@ fn columns_of(
     values: &[Value],
 ) -> Result<Option<Items<Column>>, AllocError>
     ensures value { IfOk result
-        (λ columns. columns ≡ columns_behind key.now [] (items_view values.now)) }
+        (λ columns. columns ≡ columns_after key.now [] (items_view values.now)) }
     ensures fits { IfOk result (λ columns. IfSome columns AreColumns) }
 {
     let mut columns = Vec::new(alloc);

@@ -16,6 +16,6 @@ mod document;
 
 pub use catalog::Catalog;
 pub use config::MAX_TABLES;
-pub use config_fault::{CatalogFault, Member, Misfit};
+pub use config_fault::{CatalogFault, CatalogMember, CatalogMisfit};
 pub use config_member::{MAX_OID, is_more_than, name_in, names_in};
 pub use document::read_document;

@@ -6,7 +6,7 @@ use Rattle.std.proofs.lemmas.List.FromFn.{length-map-range_with_len, get_or-map-
 use Rattle.chgarena.specs.Places.{with_bytes}
 use Rattle.chgarena.specs.Pages.{IsPage, IsPages, Lies, begins, bytes_taken, line_of, line_place, page, pages, places_of, with_entry}
 use Rattle.chgarena.proofs.Coding.{begins_last, begins_push, bytes_of, entry_within, length-page, page_is, taken_is, taken_push}
-use Rattle.chgarena.proofs.Written.{length-with_bytes, before_it, behind_it, in_chunk, in_it}
+use Rattle.chgarena.proofs.Written.{length-with_bytes, before_it, after_it, in_chunk, in_it}
 
 pub length-pages : (places : List (Option ℕ)) (counts : List ℕ) → length (pages places counts) ≡ length counts
 length-pages places counts = length-map-range_with_len (λ c. page (get_or counts c 0) (places_of places c)) 0 (length counts)
@@ -163,7 +163,7 @@ module _ (places : List (Option ℕ)) (used counts : List ℕ) (good : IsPages p
       before_it places₁ (base + line_place n) line fits₂ (i * 16384) 16384 (omega arith) ∙ before_it places (base + from) e fits₁ (i * 16384) 16384 (omega arith))
       (λ (above : c ≤ i).
       let more : c < i = omega arith in
-      ap (take 16384) (behind_it places₁ (base + line_place n) line fits₂ (i * 16384) (omega arith) ∙ behind_it places (base + from) e fits₁ (i * 16384) (omega arith)))
+      ap (take 16384) (after_it places₁ (base + line_place n) line fits₂ (i * 16384) (omega arith) ∙ after_it places (base + from) e fits₁ (i * 16384) (omega arith)))
       (cases_lt i c)
 
   -- those before it stay
@@ -173,7 +173,7 @@ module _ (places : List (Option ℕ)) (used counts : List ℕ) (good : IsPages p
       let l = four in
       record {
         line = in_chunk places₂ base (line_place k) 4 (omega arith) ∙
-            (ap (take 4) (behind_it places₁ (base + line_place n) line fits₂ (base + line_place k) (omega arith) ∙ behind_it places (base + from) e fits₁ (base + line_place k) (omega arith)) ∙
+            (ap (take 4) (after_it places₁ (base + line_place n) line fits₂ (base + line_place k) (omega arith) ∙ after_it places (base + from) e fits₁ (base + line_place k) (omega arith)) ∙
             (sym (in_chunk places base (line_place k) 4 (omega arith)) ∙ is.line));
         bytes = in_chunk places₂ base at (length x) (omega arith) ∙
             (before_it places₁ (base + line_place n) line fits₂ (base + at) (length x) (omega arith) ∙ (before_it places (base + from) e fits₁ (base + at) (length x) (omega arith) ∙

@@ -12,7 +12,7 @@ use Rattle.core.specs.declared.alloc.Allocator.{Ghosts}
 use Rattle.std_alloc.proofs.SendSync.{FreesAnywhere, quiet}
 use Rattle.chgarena.specs.Places.{places, places_own}
 use Rattle.chgarena.specs.contracts.memory.Memory as Memory
-use Rattle.chgarena.specs.contracts.memory.Lease as Lease
+use Rattle.chgarena.specs.contracts.memory.ReleaseRight as ReleaseRight
 
 byte_send : IsSend u8
 byte_send = search sendable
@@ -31,7 +31,7 @@ Memory-send =
     let O = Memory.the_type in let all : AllSend (fields O) = (search sendable, tt) in
     owning_send O all (λ d. own-Keyless d.ptr d.places) (λ k. quiet (to O) (exits_of k (fields O)) ((struct_send (shape O) all).leaving k))
 
-pub Lease-send : (A : RattleType) (g : Ghosts A.Denot) → FreesAnywhere A.Denot g → IsSend (Lease.the_row A g)
-Lease-send A g f =
-    let O = Lease.the_type A g in let all : AllSend (fields O) = (search sendable, tt) in
+pub ReleaseRight-send : (A : RattleType) (g : Ghosts A.Denot) → FreesAnywhere A.Denot g → IsSend (ReleaseRight.the_row A g)
+ReleaseRight-send A g f =
+    let O = ReleaseRight.the_type A g in let all : AllSend (fields O) = (search sendable, tt) in
     owning_send O all (λ d. f.frees d.alloc _ d.ptr) (λ k. quiet (to O) (exits_of k (fields O)) ((struct_send (shape O) all).leaving k))

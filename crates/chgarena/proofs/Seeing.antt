@@ -120,20 +120,20 @@ module _ (l : Links) (ps : Pages) (ns : List ℕ) (good : IsArena l ps ns) (seen
     had : (h < l.chunks) × (at b.last h < l.chunks)
     had = of_seen h is
 
-    pub behind_arena : (c n : ℕ) → Behind (Some c) → n ≡ at ns (at b.last h) + length (get_or ps (at b.last h) []) → IsArena l' ps' (set ns c n)
-    behind_arena c n done is =
+    pub after_arena : (c n : ℕ) → Behind (Some c) → n ≡ at ns (at b.last h) + length (get_or ps (at b.last h) []) → IsArena l' ps' (set ns c n)
+    after_arena c n done is =
         let P : Pages → Type 0 = λ qs. IsArena l' qs (set ns c n) in
         subst P (sym done.2) (arena_by l' (books_with_chunk b h c) (set ps c (e ∷ [])) (set ns c n) done.1 links' good.few (length-set ps c (e ∷ []) ∙ good.pages) (length-set ns c n ∙ good.befores) (λ x low has. (
           pushing.grown_filled b good.links.books ps good.pages good.filled c done.0 e fits h had.0 had.1 over x low has,
           counting.grown_counted b good.links.books ps good.pages good.filled ns good.befores good.counted c done.0 e fits n h had.0 had.1 over is x low has,
         )))
 
-    pub behind_says : (r : Option ℕ) → Behind r → MatchBool (is_some r)
+    pub after_says : (r : Option ℕ) → Behind r → MatchBool (is_some r)
         ((strands (books l') ps' ≡ set seen h (Some (entries_of seen (Some h) ++ e ∷ []))) × (has_room (entries_of seen (Some h)) (length e) ≡ false → fills seen < length seen))
         ((strands (books l') ps' ≡ seen) × (has_room (entries_of seen (Some h)) (length e) ≡ false) × (fills seen ≡ length seen))
-    behind_says None done =
+    after_says None done =
         (ap (λ b'. strands b' ps') done.0 ∙ (ap (strands b) done.1 ∙ view), no_room_is h (length e) is over, let f = free_seen in omega (arith, done.2))
-    behind_says (Some c) done = (
+    after_says (Some c) done = (
       ap (λ b'. strands b' ps') done.1 ∙ (ap (strands (books_with_chunk b h c)) done.2 ∙ (pushing.grown_strands b good.links.books ps good.pages good.filled c done.0 e fits h had.0 had.1 over ∙
           (ap (λ s. set s h (Some (joined_entries ps (chunks_of b h) ++ e ∷ []))) view ∙ ap (λ es. set seen h (Some (es ++ e ∷ []))) (sym (entries_seen h is))))),
       λ _. let f = free_seen in omega (arith, done.0.0),

@@ -51,8 +51,8 @@ module _ (ps : List (Option ℕ)) (at : ℕ) (bs : List ℕ) (fits : at + length
       (ap (take n) (drop-take from m ps) ∙ take-take n m (drop from ps) (omega arith))))
 
   -- what stands after it
-  pub behind_it : (from : ℕ) → at + length bs ≤ from → drop from now ≡ drop from ps
-  behind_it from high =
+  pub after_it : (from : ℕ) → at + length bs ≤ from → drop from now ≡ drop from ps
+  after_it from high =
       let end = at + length bs in
       let j = from - end in
       let e : from ≡ end + j = omega arith in

@@ -163,7 +163,7 @@ impl Arena {
             return true;
         }
         let before = self.before[last] + self.pages.count(last);
-        match push_behind(&mut self.links, &mut self.pages, head, entry) {
+        match push_after(&mut self.links, &mut self.pages, head, entry) {
             Some(chunk) => {
                 self.before[chunk] = before;
                 true
@@ -251,7 +251,7 @@ fn push_first(links: &mut Links, pages: &mut Pages, entry: &[u8]) -> Option<usiz
 }
 
 /// Makes a free chunk with this entry the last of a strand, unless no chunk is free.
-fn push_behind(links: &mut Links, pages: &mut Pages, head: usize, entry: &[u8]) -> Option<usize>
+fn push_after(links: &mut Links, pages: &mut Pages, head: usize, entry: &[u8]) -> Option<usize>
     requires links { IsLinks links.old }
     requires strand { (head < (books links.old).chunks)
         × (at (books links.old).last head < (books links.old).chunks) }

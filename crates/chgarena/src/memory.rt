@@ -24,22 +24,22 @@ impl Model for Memory {
 unsafe impl Send for Memory {}
 
 /// The right to give a region back to where it came from.
-pub(crate) struct Lease<A: Allocator> {
+pub(crate) struct ReleaseRight<A: Allocator> {
     of: PhantomData<A>,
     ghost alloc: { A },
     ghost ptr: { Ptr },
     ghost size: { ℕ },
 }
 
-impl<A: Allocator> Model for Lease<A> {
+impl<A: Allocator> Model for ReleaseRight<A> {
     ghost also_owns = { λ l. A.dealloc_token l.alloc (bytes l.size) l.ptr };
 }
 
-unsafe impl<A: Allocator + Send> Send for Lease<A> {}
+unsafe impl<A: Allocator + Send> Send for ReleaseRight<A> {}
 
 impl Memory {
     /// Asks for a region of this many bytes, none of them written.
-    pub(crate) fn make<A: Allocator>(alloc: &A, size: usize) -> Option<(Memory, Lease<A>)>
+    pub(crate) fn make<A: Allocator>(alloc: &A, size: usize) -> Option<(Memory, ReleaseRight<A>)>
         requires { size < 2 ^ 60 }
         ensures { IfSome result
             (λ m. (m.0.places ≡ replicate size None) × (m.1.alloc ≡ alloc.now) × (m.1.ptr ≡ m.0.ptr)
@@ -48,7 +48,7 @@ impl Memory {
         match alloc.allocate(size, 1) {
             Ok(ptr) => {
                 let of = PhantomData;
-                Some((Memory { ptr }, Lease { of }))
+                Some((Memory { ptr }, ReleaseRight { of }))
             }
             Err(_) => None,
         }
@@ -80,12 +80,12 @@ impl Memory {
     }
 
     /// Gives the region back.
-    pub(crate) fn give_back<A: Allocator>(self, lease: Lease<A>, alloc: &A, size: usize)
+    pub(crate) fn give_back<A: Allocator>(self, lease: ReleaseRight<A>, alloc: &A, size: usize)
         requires { (lease.alloc ≡ alloc.now) × (lease.ptr ≡ self.ptr) × (lease.size ≡ size)
             × (length self.places ≡ size) }
     {
         let Memory { ptr } = self;
-        let Lease { of: _ } = lease;
+        let ReleaseRight { of: _ } = lease;
         unsafe { alloc.deallocate(ptr, size, 1) }
     }
 }

@@ -3,7 +3,7 @@
 ghost use Rattle.std.specs.Prelude.{◌≡◌, ℕ, ◌+◌, ◌<◌, ◌≤◌, ◌^◌, IfOk, List, None, Some, drop, length, map, replicate, take};
 ghost use Rattle.chgarena.specs.Places.{with_bytes};
 
-use crate::memory::{Lease, Memory};
+use crate::memory::{Memory, ReleaseRight};
 use std::alloc::{AllocError, Global};
 use std::marker::Model;
 
@@ -11,7 +11,7 @@ use std::marker::Model;
 pub(crate) struct Region {
     alloc: Global,
     memory: Memory,
-    lease: Lease<Global>,
+    lease: ReleaseRight<Global>,
     size: usize,
 }
 

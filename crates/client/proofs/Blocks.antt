@@ -16,7 +16,7 @@ use Rattle.pgoutput.specs.declared.messages.relation.Relation.{Relation}
 use Rattle.pgoutput.specs.declared.parts.tuple.Cell.{Cell}
 use Rattle.pgoutput.specs.declared.parts.old_tuple.OldTuple.{OldTuple}
 use Rattle.pgoutput.specs.OldTuple.{cells_of}
-use Rattle.pgoutput.specs.declared.word.Word.{Word}
+use Rattle.pgoutput.specs.declared.copy_both_message.CopyBothMessage.{CopyBothMessage}
 use Rattle.pgoutput.specs.declared.published.Published.{Published}
 use Rattle.pgoutput.specs.declared.published.PublishedChange.{PublishedChange}
 use Rattle.pgoutput.specs.Items.{Item, KeepaliveItem, Block, words_by, note_words, xlogdata_word, tables_of, is_relation_sent, relations_due, relations_sent_by, relations_sent_by_all, relation_words, change_words, changes_words, commit_message, item_words, relations_sent_after, FitsRelationOf, IsOldOf, IsOfChange, FitsChange, FitsNote, FitChanges, FitsItem}
@@ -106,7 +106,7 @@ all_due P relations_sent (oid ∷ oids) all = by_test (is_relation_sent relation
 -- ---- a change
 
 -- what words make of a subscriber inside a transaction: only what it was told, and the transaction
-pub record Goes (relation : ℕ → Relation) (relations_sent : List ℕ) (s : Subscriber) (ws : List Word) (half : Option HalfTransaction) : Type 0 where
+pub record Goes (relation : ℕ → Relation) (relations_sent : List ℕ) (s : Subscriber) (ws : List CopyBothMessage) (half : Option HalfTransaction) : Type 0 where
   pub tables : List (ℕ × ℕ)
   pub steps : after_words s ws ≡ Ok (at s.position s.applied tables half)
   pub told : Told relation relations_sent tables

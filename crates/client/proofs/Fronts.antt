@@ -15,15 +15,15 @@ use Rattle.frames.proofs.Bodies.{back_bodies}
 use Rattle.copyboth.specs.declared.keepalive.TheConstants.{ASKS}
 use Rattle.copyboth.specs.Keepalive.{ask_byte}
 use Rattle.pgoutput.specs.Logical.{spell_logical}
-use Rattle.pgoutput.specs.declared.word.Word.{Word}
-use Rattle.pgoutput.specs.declared.word.Word.TheVariants as words
+use Rattle.pgoutput.specs.declared.copy_both_message.CopyBothMessage.{CopyBothMessage}
+use Rattle.pgoutput.specs.declared.copy_both_message.CopyBothMessage.TheVariants as words
 use Rattle.pgoutput.specs.Words.{word_body, word_bytes, frames_of, FitsWord}
 use Rattle.client.specs.Words.{Says, SpellsWord, AreSpelled, Waits, TakesMemory}
 use Rattle.client.proofs.Bodies.{says_once}
 
 -- ---- a word's own bytes
 
-pub says_word : (w : Word) → FitsWord w → Says (word_body w) w
+pub says_word : (w : CopyBothMessage) → FitsWord w → Says (word_body w) w
 says_word (words.Keepalive k) fits = record { end = fits.fields.0; clock = fits.fields.1; ask = ask_byte k.ask; asks = asked k.ask; text = refl }
   where
     asked : (ask : Bool) → ask ≡ eqb (ask_byte ask) ASKS
@@ -32,7 +32,7 @@ says_word (words.Keepalive k) fits = record { end = fits.fields.0; clock = fits.
 says_word (words.XLogData x) fits =
     (spell_logical x.message, record { start = fits.fields.0; end = fits.fields.1; clock = fits.fields.2; text = refl }, record { in_range = fits.fields.3; text = refl })
 
-fits_length : (w : Word) → FitsWord w → FitsLength (word_body w)
+fits_length : (w : CopyBothMessage) → FitsWord w → FitsLength (word_body w)
 fits_length w fits = omega (arith, fits.short)
 
 -- ---- reading at the front
@@ -44,7 +44,7 @@ framed_word body rest short =
     rw (raw, read) refl
 
 -- the frame of a word is kept
-pub takes_memory : (bytes : List ℕ) (n : ℕ) (w : Word) → SpellsWord (take n bytes) w → TakesMemory bytes
+pub takes_memory : (bytes : List ℕ) (n : ℕ) (w : CopyBothMessage) → SpellsWord (take n bytes) w → TakesMemory bytes
 takes_memory bytes n w spelled =
     let whole : bytes ≡ frame COPY_DATA spelled.body ++ drop n bytes = sym (take-append-drop n bytes) ∙ ap (λ (l : List ℕ). l ++ drop n bytes) spelled.frame in
     subst (IsKept back_needs_memory) (sym (ap framed_back whole ∙ framed_word spelled.body (drop n bytes) spelled.short)) refl
@@ -59,10 +59,10 @@ longer a x b y e le =
     sym (take-append-drop (length b) a) ∙ ap (λ (l : List ℕ). l ++ drop (length b) a) front
 
 -- The word is there whole, or the bytes wait for more of it.
-abbrev pub Shows : Word → List ℕ → Type 0
+abbrev pub Shows : CopyBothMessage → List ℕ → Type 0
 Shows v rest = ((length rest < length (word_bytes v)) × Waits rest) ⊎ ((length (word_bytes v) ≤ length rest) × (framed_back rest ≡ Ok (Some (CopyData (record { bytes = word_body v }), 5 + length (word_body v)))))
 
-pub shows : (v : Word) (rest more tail : List ℕ) → FitsWord v → rest ++ more ≡ word_bytes v ++ tail → Shows v rest
+pub shows : (v : CopyBothMessage) (rest more tail : List ℕ) → FitsWord v → rest ++ more ≡ word_bytes v ++ tail → Shows v rest
 shows v rest more tail fits e = elim (cases_lt (length rest) (length (word_bytes v))) [
   | inl less ↦
       let whole : word_bytes v ≡ rest ++ drop (length rest) (word_bytes v) = longer (word_bytes v) tail rest more (sym e) (omega (arith, less)) in
@@ -74,25 +74,25 @@ shows v rest more tail fits e = elim (cases_lt (length rest) (length (word_bytes
 
 -- ---- of words that begin the same bytes
 
-pub same_word : (text : List ℕ) (w v : Word) (x y : List ℕ) → SpellsWord text w → FitsWord v → text ++ x ≡ word_bytes v ++ y → (w ≡ v) × (text ≡ word_bytes v) × (x ≡ y)
+pub same_word : (text : List ℕ) (w v : CopyBothMessage) (x y : List ℕ) → SpellsWord text w → FitsWord v → text ++ x ≡ word_bytes v ++ y → (w ≡ v) × (text ≡ word_bytes v) × (x ≡ y)
 same_word text w v x y spelled fits e =
     let both : frame COPY_DATA spelled.body ++ x ≡ frame COPY_DATA (word_body v) ++ y = ap (λ (l : List ℕ). l ++ x) (sym spelled.frame) ∙ e in
     let same = frame_begins COPY_DATA COPY_DATA spelled.body (word_body v) x y (omega (arith, spelled.short)) (fits_length v fits) both in
     let says : Says (word_body v) w = subst (λ (b : List ℕ). Says b w) same.1 spelled.says in
     (says_once (word_body v) w v says (says_word v fits), spelled.frame ∙ ap (frame COPY_DATA) same.1, same.2)
 
-pub not_empty : (text : List ℕ) (w : Word) (x : List ℕ) → SpellsWord text w → text ++ x ≡ [] → ⊥
+pub not_empty : (text : List ℕ) (w : CopyBothMessage) (x : List ℕ) → SpellsWord text w → text ++ x ≡ [] → ⊥
 not_empty text w x spelled e = absurd (omega (arith, ap (length {A = ℕ}) e, length-append text x, ap (length {A = ℕ}) spelled.frame, length-frame COPY_DATA spelled.body))
 
 -- words that are spelled at the front of the bytes of others are a beginning of those
-pub record Aligned (text : List ℕ) (ws vs : List Word) (x : List ℕ) : Type 0 where
-  pub more : List Word
+pub record Aligned (text : List ℕ) (ws vs : List CopyBothMessage) (x : List ℕ) : Type 0 where
+  pub more : List CopyBothMessage
   pub is : vs ≡ ws ++ more
   pub front : text ≡ frames_of ws
   pub rest : x ≡ frames_of more
   pub fits : AllByRecursion FitsWord more
 
-pub aligned : (text : List ℕ) (ws vs : List Word) (x : List ℕ) → AreSpelled text ws → AllByRecursion FitsWord vs → text ++ x ≡ frames_of vs → Aligned text ws vs x
+pub aligned : (text : List ℕ) (ws vs : List CopyBothMessage) (x : List ℕ) → AreSpelled text ws → AllByRecursion FitsWord vs → text ++ x ≡ frames_of vs → Aligned text ws vs x
 aligned text [] vs x spelled fits e = record { more = vs; is = refl; front = spelled; rest = ap (λ (l : List ℕ). l ++ x) (sym spelled) ∙ e; fits = fits }
 aligned text (w ∷ ws) [] x spelled fits e =
     absurd (not_empty spelled.0 w (spelled.1 ++ x) spelled.3 (sym (append_assoc spelled.0 spelled.1 x) ∙ ap (λ (l : List ℕ). l ++ x) (sym spelled.2) ∙ e))
@@ -103,8 +103,8 @@ aligned text (w ∷ ws) (v ∷ vs) x spelled fits e =
     let heads : w ≡ v = same.0 in
     record {
       more = inner.more;
-      is = ap (λ (l : List Word). v ∷ l) inner.is ∙ ap (λ (u : Word). u ∷ (ws ++ inner.more)) (sym heads);
-      front = spelled.2 ∙ ap (λ (l : List ℕ). l ++ spelled.1) same.1 ∙ ap (λ (l : List ℕ). word_bytes v ++ l) inner.front ∙ sym (flat_map-cons word_bytes v ws) ∙ ap (λ (u : Word). frames_of (u ∷ ws)) (sym heads);
+      is = ap (λ (l : List CopyBothMessage). v ∷ l) inner.is ∙ ap (λ (u : CopyBothMessage). u ∷ (ws ++ inner.more)) (sym heads);
+      front = spelled.2 ∙ ap (λ (l : List ℕ). l ++ spelled.1) same.1 ∙ ap (λ (l : List ℕ). word_bytes v ++ l) inner.front ∙ sym (flat_map-cons word_bytes v ws) ∙ ap (λ (u : CopyBothMessage). frames_of (u ∷ ws)) (sym heads);
       rest = inner.rest;
       fits = inner.fits;
     }

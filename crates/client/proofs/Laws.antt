@@ -9,7 +9,7 @@ use Rattle.frames.specs.declared.fault.FrameFault.{FrameFault}
 use Rattle.frames.specs.declared.back.Back.{Back}
 use Rattle.pqformat.proofs.Codec.{ok_is}
 use Rattle.pgoutput.specs.declared.messages.relation.Relation.{Relation}
-use Rattle.pgoutput.specs.declared.word.Word.{Word}
+use Rattle.pgoutput.specs.declared.copy_both_message.CopyBothMessage.{CopyBothMessage}
 use Rattle.pgoutput.specs.Words.{word_bytes, frames_of, FitsWord}
 use Rattle.pgoutput.specs.Items.{Item, item_words, words_of, bytes_of_items, FitItems}
 use Rattle.pgoutput.proofs.Ranges.{words_fit}
@@ -34,7 +34,7 @@ abbrev Framed : Type 0
 Framed = Result (Option (Back × ℕ)) FrameFault
 
 -- at the front stands a word, or nothing whole
-readable : (rest more : List ℕ) (vs : List Word) → AllByRecursion FitsWord vs → rest ++ more ≡ frames_of vs → (Holds IsNoWord (Unit {0}) (framed_back rest) → ⊥) × (Holds IsError ⊥ (framed_back rest) → ⊥)
+readable : (rest more : List ℕ) (vs : List CopyBothMessage) → AllByRecursion FitsWord vs → rest ++ more ≡ frames_of vs → (Holds IsNoWord (Unit {0}) (framed_back rest) → ⊥) × (Holds IsError ⊥ (framed_back rest) → ⊥)
 readable rest more [] fits e =
     let none : framed_back rest ≡ Ok None = ap framed_back (empty_front rest more e) in
     (λ bad. subst (λ (r : Framed). Holds IsNoWord (Unit {0}) r) none bad, λ bad. subst (λ (r : Framed). Holds IsError ⊥ r) none bad)
@@ -44,7 +44,7 @@ readable rest more (v ∷ vs) fits e = elim (shows v rest more (frames_of vs) fi
 ]
 
 -- and the word is taken
-taken : (e : ClientFault) (s end : Subscriber) (rest more : List ℕ) (vs : List Word) → AllByRecursion FitsWord vs → rest ++ more ≡ frames_of vs → after_words s vs ≡ Ok end → IsRefused e s rest → ⊥
+taken : (e : ClientFault) (s end : Subscriber) (rest more : List ℕ) (vs : List CopyBothMessage) → AllByRecursion FitsWord vs → rest ++ more ≡ frames_of vs → after_words s vs ≡ Ok end → IsRefused e s rest → ⊥
 taken e s end rest more [] fits is steps refused = not_empty refused.1 refused.0 (refused.2 ++ more) refused.3 (sym (append_assoc refused.1 refused.2 more) ∙ ap (λ (l : List ℕ). l ++ more) (sym refused.4) ∙ is)
 taken e s end rest more (v ∷ vs) fits is steps refused =
     let parted : refused.1 ++ (refused.2 ++ more) ≡ word_bytes v ++ frames_of vs = sym (append_assoc refused.1 refused.2 more) ∙ ap (λ (l : List ℕ). l ++ more) (sym refused.4) ∙ is ∙ flat_map-cons word_bytes v vs in
@@ -53,7 +53,7 @@ taken e s end rest more (v ∷ vs) fits is steps refused =
     let both : (Err e >>= λ t. after_words t vs) ≡ Ok end = ap (λ (r : Result Subscriber ClientFault). r >>= λ t. after_words t vs) (sym fails) ∙ steps in
     absurd cc
 
-only_memory : (e : ClientFault) (s end : Subscriber) (rest more : List ℕ) (vs : List Word) → AllByRecursion FitsWord vs → rest ++ more ≡ frames_of vs → after_words s vs ≡ Ok end → Stops e s rest → e ≡ faults.Memory
+only_memory : (e : ClientFault) (s end : Subscriber) (rest more : List ℕ) (vs : List CopyBothMessage) → AllByRecursion FitsWord vs → rest ++ more ≡ frames_of vs → after_words s vs ≡ Ok end → Stops e s rest → e ≡ faults.Memory
 only_memory faults.Frame s end rest more vs fits is steps stops = absurd ((readable rest more vs fits is).0 stops)
 only_memory faults.Server s end rest more vs fits is steps stops = absurd ((readable rest more vs fits is).1 stops)
 only_memory faults.Order s end rest more vs fits is steps stops = absurd (taken faults.Order s end rest more vs fits is steps stops)
@@ -90,7 +90,7 @@ standing : (relation : ℕ → Relation) (items : List Item) (base : Subscriber)
     → (b : Begins relation items base bytes new rest more r) → Stands relation [] base.position base.applied (at base.position base.applied [] None) r.words b.more items
 standing relation items base bytes new rest more r fit forward b = stands relation [] base.position base.applied [] r.words b.more items fit forward (none_told relation) (sym b.is)
 
-same_subscriber : (relation : ℕ → Relation) (items : List Item) (base : Subscriber) (bytes : List ℕ) (new : Subscriber) (rest : List ℕ) (vs : List Word) (r : Reached base bytes new rest) → base ≡ subscriber_at_rest base.position base.applied
+same_subscriber : (relation : ℕ → Relation) (items : List Item) (base : Subscriber) (bytes : List ℕ) (new : Subscriber) (rest : List ℕ) (vs : List CopyBothMessage) (r : Reached base bytes new rest) → base ≡ subscriber_at_rest base.position base.applied
     → (s : Stands relation [] base.position base.applied (at base.position base.applied [] None) r.words vs items) → new ≡ s.new
 same_subscriber relation items base bytes new rest vs r rests s = ok_is ClientFault new s.new (sym r.steps ∙ ap (λ (b : Subscriber). after_words b r.words) rests ∙ s.steps)
 
@@ -107,18 +107,18 @@ gains_of relation items base bytes new rest more r rests b s = record {
 }
 
 -- what waits is less than the next word
-waits_less : (v : Word) (rest more tail : List ℕ) → FitsWord v → rest ++ more ≡ word_bytes v ++ tail → Waits rest → length rest < length (word_bytes v)
+waits_less : (v : CopyBothMessage) (rest more tail : List ℕ) → FitsWord v → rest ++ more ≡ word_bytes v ++ tail → Waits rest → length rest < length (word_bytes v)
 waits_less v rest more tail fits e waits = elim (shows v rest more tail fits e) [
   | inl less ↦ less.0
   | inr whole ↦ let both : framed_back rest ≡ Ok None = waits in let other = whole.1 in absurd cc
 ]
 
-less : (relation : ℕ → Relation) (relations_sent : List ℕ) (part vs : List Word) (rest more : List ℕ) (others : List Item) → IsBegun relation relations_sent part vs others → AllByRecursion FitsWord vs → rest ++ more ≡ frames_of vs → Waits rest
+less : (relation : ℕ → Relation) (relations_sent : List ℕ) (part vs : List CopyBothMessage) (rest more : List ℕ) (others : List Item) → IsBegun relation relations_sent part vs others → AllByRecursion FitsWord vs → rest ++ more ≡ frames_of vs → Waits rest
     → IsLess relation relations_sent (frames_of part ++ rest) others
 less relation relations_sent part vs rest more [] begun fits e waits =
-    ap (λ (ws : List Word). frames_of ws ++ rest) begun.0 ∙ empty_front rest more (e ∙ ap frames_of begun.1)
+    ap (λ (ws : List CopyBothMessage). frames_of ws ++ rest) begun.0 ∙ empty_front rest more (e ∙ ap frames_of begun.1)
 less relation relations_sent part vs rest more (item ∷ items) begun fits e waits =
-    let fit : AllByRecursion FitsWord (begun.0 ∷ begun.2) = subst (λ (ws : List Word). AllByRecursion FitsWord ws) begun.4 fits in
+    let fit : AllByRecursion FitsWord (begun.0 ∷ begun.2) = subst (λ (ws : List CopyBothMessage). AllByRecursion FitsWord ws) begun.4 fits in
     let short = waits_less begun.0 rest more (frames_of begun.2) fit.0 (e ∙ ap frames_of begun.4 ∙ flat_map-cons word_bytes begun.0 begun.2) waits in
     let whole : frames_of (item_words relation relations_sent item) ≡ frames_of part ++ (word_bytes begun.0 ++ frames_of begun.1) =
     ap frames_of begun.3 ∙ flat_map-append word_bytes part (begun.0 ∷ begun.1) ∙ ap (λ (l : List ℕ). frames_of part ++ l) (flat_map-cons word_bytes begun.0 begun.1) in

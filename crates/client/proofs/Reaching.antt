@@ -16,8 +16,8 @@ use Rattle.pgoutput.specs.declared.messages.relation.Relation.{Relation}
 use Rattle.pgoutput.specs.declared.parts.tuple.Cell.{Cell}
 use Rattle.pgoutput.specs.declared.parts.old_tuple.OldTuple.{OldTuple}
 use Rattle.pgoutput.specs.OldTuple.{cells_of}
-use Rattle.pgoutput.specs.declared.word.Word.{Word}
-use Rattle.pgoutput.specs.declared.word.Word.TheVariants as words
+use Rattle.pgoutput.specs.declared.copy_both_message.CopyBothMessage.{CopyBothMessage}
+use Rattle.pgoutput.specs.declared.copy_both_message.CopyBothMessage.TheVariants as words
 use Rattle.client.specs.declared.fault.ClientFault.{ClientFault}
 use Rattle.client.specs.declared.fault.ClientFault.TheVariants as faults
 use Rattle.client.specs.Words.{SpellsWord, AreSpelled, IsUnread}
@@ -46,11 +46,11 @@ done s = Ok s
 same_done : (s t : Subscriber) → done s ≡ done t → s ≡ t
 same_done s t e = ok_is ClientFault s t e
 
-spelled_append : (a b : List ℕ) (ws vs : List Word) → AreSpelled a ws → AreSpelled b vs → AreSpelled (a ++ b) (ws ++ vs)
+spelled_append : (a b : List ℕ) (ws vs : List CopyBothMessage) → AreSpelled a ws → AreSpelled b vs → AreSpelled (a ++ b) (ws ++ vs)
 spelled_append a b [] vs is_a is_b = subst (λ (l : List ℕ). AreSpelled (l ++ b) vs) (sym is_a) is_b
 spelled_append a b (w ∷ ws) vs is_a is_b = (is_a.0, is_a.1 ++ b, ap (λ (l : List ℕ). l ++ b) is_a.2 ∙ append_assoc is_a.0 is_a.1 b, is_a.3, spelled_append is_a.1 b ws vs is_a.4 is_b)
 
-pub after_append : (s : Subscriber) (ws vs : List Word) (t : Subscriber) → after_words s ws ≡ Ok t → after_words s (ws ++ vs) ≡ after_words t vs
+pub after_append : (s : Subscriber) (ws vs : List CopyBothMessage) (t : Subscriber) → after_words s ws ≡ Ok t → after_words s (ws ++ vs) ≡ after_words t vs
 after_append s [] vs t e = ap (λ (u : Subscriber). after_words u vs) (same_done s t e)
 after_append s (w ∷ ws) vs t e = by_word (after_word s w) e (λ u f. after_append u ws vs t f)
   where
@@ -62,7 +62,7 @@ after_append s (w ∷ ws) vs t e = by_word (after_word s w) e (λ u f. after_app
 pub reached_none : (s : Subscriber) (bytes : List ℕ) → Reached s bytes s bytes
 reached_none s bytes = record { words = []; text = []; spells = refl; is = refl; steps = refl }
 
-pub reached_one : (s : Subscriber) (bytes : List ℕ) (w : Word) (n : ℕ) (t : Subscriber) → SpellsWord (take n bytes) w → after_word s w ≡ Ok t → Reached s bytes t (drop n bytes)
+pub reached_one : (s : Subscriber) (bytes : List ℕ) (w : CopyBothMessage) (n : ℕ) (t : Subscriber) → SpellsWord (take n bytes) w → after_word s w ≡ Ok t → Reached s bytes t (drop n bytes)
 reached_one s bytes w n t spelled after = record {
   words = w ∷ [];
   text = take n bytes;
@@ -183,7 +183,7 @@ refused_heard : (is_transactional : Bool) (s : Subscriber) (start end : ℕ) (m 
 refused_heard true s start end m e is = refused_changed s.half s start (logical.Message m) e is
 refused_heard false s start end m e is = refused_note s.half s end m e is
 
-refused_word : (s : Subscriber) (w : Word) (e : ClientFault) → after_word s w ≡ Err e → IsRefusal e
+refused_word : (s : Subscriber) (w : CopyBothMessage) (e : ClientFault) → after_word s w ≡ Err e → IsRefusal e
 refused_word s (words.Keepalive k) e is = absurd cc
 refused_word s (words.XLogData x) e is = by_message x.message is
   where
@@ -198,10 +198,10 @@ refused_word s (words.XLogData x) e is = by_message x.message is
     by_message (logical.Message m) is = refused_heard m.is_transactional s x.start x.end m e is
 
 -- the word at the front stops it
-pub stopped : (s : Subscriber) (bytes : List ℕ) (w : Word) (n : ℕ) (e : ClientFault) (new : Subscriber) → SpellsWord (take n bytes) w → Makes (Err e) s new (after_word s w) → Stops e s bytes
+pub stopped : (s : Subscriber) (bytes : List ℕ) (w : CopyBothMessage) (n : ℕ) (e : ClientFault) (new : Subscriber) → SpellsWord (take n bytes) w → Makes (Err e) s new (after_word s w) → Stops e s bytes
 stopped s bytes w n e new spelled made = by_fault e made
   where
-    refused : (e : ClientFault) → after_word s w ≡ Err e → (v : Word) × (text more : List ℕ) × SpellsWord text v × (bytes ≡ text ++ more) × (after_word s v ≡ Err e)
+    refused : (e : ClientFault) → after_word s w ≡ Err e → (v : CopyBothMessage) × (text more : List ℕ) × SpellsWord text v × (bytes ≡ text ++ more) × (after_word s v ≡ Err e)
     refused e is = (w, take n bytes, drop n bytes, spelled, sym (take-append-drop n bytes), is)
 
     by_fault : (e : ClientFault) → Makes (Err e) s new (after_word s w) → Stops e s bytes

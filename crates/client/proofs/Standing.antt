@@ -7,8 +7,8 @@ use Rattle.pqformat.specs.Steps.{◌>>=◌}
 use Rattle.pgoutput.specs.declared.logical.Logical.{Logical}
 use Rattle.pgoutput.specs.declared.logical.Logical.TheVariants as logical
 use Rattle.pgoutput.specs.declared.messages.relation.Relation.{Relation}
-use Rattle.pgoutput.specs.declared.word.Word.{Word}
-use Rattle.pgoutput.specs.declared.word.Word.TheVariants as words
+use Rattle.pgoutput.specs.declared.copy_both_message.CopyBothMessage.{CopyBothMessage}
+use Rattle.pgoutput.specs.declared.copy_both_message.CopyBothMessage.TheVariants as words
 use Rattle.pgoutput.specs.declared.published.Published.{Published}
 use Rattle.pgoutput.specs.declared.published.PublishedChange.{PublishedChange}
 use Rattle.pgoutput.proofs.Lists.{all_of_both}
@@ -26,7 +26,7 @@ IsQuietMessage (logical.Commit m) = ⊥
 IsQuietMessage (logical.Message m) = m.is_transactional ≡ true
 IsQuietMessage _ = Unit {0}
 
-abbrev IsQuiet : Word → Type 0
+abbrev IsQuiet : CopyBothMessage → Type 0
 IsQuiet (words.Keepalive k) = ⊥
 IsQuiet (words.XLogData x) = IsQuietMessage x.message
 
@@ -70,11 +70,11 @@ message_still s position end (logical.Truncate m) quiet = changed_still s.half s
 message_still s position end (logical.Message m) quiet =
     subst (λ (b : Bool). KeepsStill s (after_logical_message b s position end m)) (sym quiet) (changed_still s.half s position (logical.Message m))
 
-word_still : (s : Subscriber) (w : Word) → IsQuiet w → KeepsStill s (after_word s w)
+word_still : (s : Subscriber) (w : CopyBothMessage) → IsQuiet w → KeepsStill s (after_word s w)
 word_still s (words.Keepalive k) quiet = absurd quiet
 word_still s (words.XLogData x) quiet = message_still s x.start x.end x.message quiet
 
-words_still : (s : Subscriber) (ws : List Word) → AllByRecursion IsQuiet ws → KeepsStill s (after_words s ws)
+words_still : (s : Subscriber) (ws : List CopyBothMessage) → AllByRecursion IsQuiet ws → KeepsStill s (after_words s ws)
 words_still s [] quiet = still s
 words_still s (w ∷ ws) quiet = by_word (after_word s w) (word_still s w quiet.0) (λ t. words_still t ws quiet.1)
   where
@@ -88,9 +88,9 @@ words_still s (w ∷ ws) quiet = by_word (after_word s w) (word_still s w quiet.
 
 -- ---- the words of an item, but the last, are quiet
 
-record Ending (ws : List Word) : Type 0 where
-  front : List Word
-  last : Word
+record Ending (ws : List CopyBothMessage) : Type 0 where
+  front : List CopyBothMessage
+  last : CopyBothMessage
   is : ws ≡ front ++ last ∷ []
   quiet : AllByRecursion IsQuiet front
 
@@ -134,7 +134,7 @@ item_ending : (relation : ℕ → Relation) (relations_sent : List ℕ) (item : 
 item_ending relation relations_sent (KeepaliveItem k) fit = record { front = []; last = words.Keepalive k; is = refl; quiet = tt }
 item_ending relation relations_sent (Block clock t) fit = block_ending relation relations_sent clock t t.is_note fit.1.changes
 
-part_quiet : (ws : List Word) (v : Word) (more front : List Word) (last : Word) → ws ++ v ∷ more ≡ front ++ last ∷ [] → AllByRecursion IsQuiet front → AllByRecursion IsQuiet ws
+part_quiet : (ws : List CopyBothMessage) (v : CopyBothMessage) (more front : List CopyBothMessage) (last : CopyBothMessage) → ws ++ v ∷ more ≡ front ++ last ∷ [] → AllByRecursion IsQuiet front → AllByRecursion IsQuiet ws
 part_quiet [] v more front last e quiet = tt
 part_quiet (w ∷ []) v more [] last e quiet = absurd cc
 part_quiet (w ∷ x ∷ ws) v more [] last e quiet = absurd cc
@@ -145,18 +145,18 @@ part_quiet (w ∷ ws) v more (f ∷ front) last e quiet =
 
 -- ---- where two lists meet
 
-record Past (ws more xs ys : List Word) : Type 0 where
-  rest : List Word
+record Past (ws more xs ys : List CopyBothMessage) : Type 0 where
+  rest : List CopyBothMessage
   is : ws ≡ xs ++ rest
   behind : rest ++ more ≡ ys
 
-record Within (ws more xs ys : List Word) : Type 0 where
-  next : Word
-  others : List Word
+record Within (ws more xs ys : List CopyBothMessage) : Type 0 where
+  next : CopyBothMessage
+  others : List CopyBothMessage
   is : xs ≡ ws ++ next ∷ others
   behind : more ≡ next ∷ (others ++ ys)
 
-meet : (ws more xs ys : List Word) → ws ++ more ≡ xs ++ ys → Past ws more xs ys ⊎ Within ws more xs ys
+meet : (ws more xs ys : List CopyBothMessage) → ws ++ more ≡ xs ++ ys → Past ws more xs ys ⊎ Within ws more xs ys
 meet [] more [] ys e = inl (record { rest = []; is = refl; behind = e })
 meet [] more (x ∷ xs) ys e = inr (record { next = x; others = xs; is = refl; behind = e })
 meet (w ∷ ws) more [] ys e = inl (record { rest = w ∷ ws; is = refl; behind = e })
@@ -164,21 +164,21 @@ meet (w ∷ ws) more (x ∷ xs) ys e =
     let head : w ≡ x = cc in
     let tail : ws ++ more ≡ xs ++ ys = cc in
     elim (meet ws more xs ys tail) [
-      | inl past ↦ inl (record { rest = past.rest; is = ap (λ (u : Word). u ∷ ws) head ∙ ap (λ (l : List Word). x ∷ l) past.is; behind = past.behind })
-      | inr within ↦ inr (record { next = within.next; others = within.others; is = ap (λ (l : List Word). x ∷ l) within.is ∙ ap (λ (u : Word). u ∷ (ws ++ within.next ∷ within.others)) (sym head); behind = within.behind })
+      | inl past ↦ inl (record { rest = past.rest; is = ap (λ (u : CopyBothMessage). u ∷ ws) head ∙ ap (λ (l : List CopyBothMessage). x ∷ l) past.is; behind = past.behind })
+      | inr within ↦ inr (record { next = within.next; others = within.others; is = ap (λ (l : List CopyBothMessage). x ∷ l) within.is ∙ ap (λ (u : CopyBothMessage). u ∷ (ws ++ within.next ∷ within.others)) (sym head); behind = within.behind })
     ]
 
 -- ---- items that stand whole
 
 -- of what follows, this is a proper beginning
-abbrev pub IsBegun : (ℕ → Relation) → List ℕ → List Word → List Word → List Item → Type 0
+abbrev pub IsBegun : (ℕ → Relation) → List ℕ → List CopyBothMessage → List CopyBothMessage → List Item → Type 0
 IsBegun relation relations_sent part more [] = (part ≡ []) × (more ≡ [])
-IsBegun relation relations_sent part more (item ∷ items) = (next : Word) × (others behind : List Word) × (item_words relation relations_sent item ≡ part ++ next ∷ others) × (more ≡ next ∷ behind)
+IsBegun relation relations_sent part more (item ∷ items) = (next : CopyBothMessage) × (others behind : List CopyBothMessage) × (item_words relation relations_sent item ≡ part ++ next ∷ others) × (more ≡ next ∷ behind)
 
-pub record Stands (relation : ℕ → Relation) (relations_sent : List ℕ) (p : ℕ) (a : List Published) (s : Subscriber) (ws more : List Word) (items : List Item) : Type 0 where
+pub record Stands (relation : ℕ → Relation) (relations_sent : List ℕ) (p : ℕ) (a : List Published) (s : Subscriber) (ws more : List CopyBothMessage) (items : List Item) : Type 0 where
   pub done : List Item
   pub others : List Item
-  pub part : List Word
+  pub part : List CopyBothMessage
   pub is : items ≡ done ++ others
   pub words : ws ≡ words_of relation relations_sent done ++ part
   pub begun : IsBegun relation (relations_sent_with relations_sent done) part more others
@@ -188,7 +188,7 @@ pub record Stands (relation : ℕ → Relation) (relations_sent : List ℕ) (p :
   pub applied : new.applied ≡ a ++ gained_transactions p done
 
 -- what goes through as a whole goes through in part
-through : (s : Subscriber) (ws vs : List Word) (end : Subscriber) → after_words s (ws ++ vs) ≡ Ok end → (t : Subscriber) × (after_words s ws ≡ Ok t) × (after_words t vs ≡ Ok end)
+through : (s : Subscriber) (ws vs : List CopyBothMessage) (end : Subscriber) → after_words s (ws ++ vs) ≡ Ok end → (t : Subscriber) × (after_words s ws ≡ Ok t) × (after_words t vs ≡ Ok end)
 through s [] vs end e = (s, refl, e)
 through s (w ∷ ws) vs end e = by_word (after_word s w) e (λ t f. through t ws vs end f)
   where
@@ -202,9 +202,9 @@ kept s t (Ok u) is same = let e : u ≡ t = cc in subst (λ (x : Subscriber). Sa
 kept s t (Err e) is same = absurd cc
 
 -- the items after one
-behind_one : (p : ℕ) (item : Item) (items : List Item) → position_after p (item ∷ items) ≡ position_after (position_after p (item ∷ [])) items
-behind_one p (KeepaliveItem k) items = refl
-behind_one p (Block clock t) items = refl
+after_one : (p : ℕ) (item : Item) (items : List Item) → position_after p (item ∷ items) ≡ position_after (position_after p (item ∷ [])) items
+after_one p (KeepaliveItem k) items = refl
+after_one p (Block clock t) items = refl
 
 gained_one : (p : ℕ) (item : Item) (items : List Item) → gained_transactions p (item ∷ items) ≡ gained_transactions p (item ∷ []) ++ gained_transactions (position_after p (item ∷ [])) items
 gained_one p (KeepaliveItem k) items = refl
@@ -215,7 +215,7 @@ forward_one : (item : Item) (items : List Item) → AreForward (item ∷ items) 
 forward_one (KeepaliveItem k) items forward = (tt, forward)
 forward_one (Block clock t) items forward = ((forward.0, tt), forward.1)
 
-pub stands : (relation : ℕ → Relation) (relations_sent : List ℕ) (p : ℕ) (a : List Published) (tables : List (ℕ × ℕ)) (ws more : List Word) (items : List Item) → FitItems relation items → AreForward items → Told relation relations_sent tables
+pub stands : (relation : ℕ → Relation) (relations_sent : List ℕ) (p : ℕ) (a : List Published) (tables : List (ℕ × ℕ)) (ws more : List CopyBothMessage) (items : List Item) → FitItems relation items → AreForward items → Told relation relations_sent tables
     → ws ++ more ≡ words_of relation relations_sent items → Stands relation relations_sent p a (at p a tables None) ws more items
 stands relation relations_sent p a tables [] more [] fit forward told e =
     record { done = []; others = []; part = []; is = refl; words = refl; begun = (refl, e); new = at p a tables None; steps = refl; position = refl; applied = sym (append-nil a) }
@@ -233,11 +233,11 @@ stands relation relations_sent p a tables ws more (item ∷ items) fit forward t
             others = inner.others;
             part = inner.part;
             is = ap (λ (l : List Item). item ∷ l) inner.is;
-            words = past.is ∙ ap (λ (l : List Word). own ++ l) inner.words ∙ sym (append_assoc own (words_of relation (relations_sent_after relations_sent item) inner.done) inner.part);
+            words = past.is ∙ ap (λ (l : List CopyBothMessage). own ++ l) inner.words ∙ sym (append_assoc own (words_of relation (relations_sent_after relations_sent item) inner.done) inner.part);
             begun = inner.begun;
             new = inner.new;
             steps = ap (after_words (at p a tables None)) past.is ∙ after_append (at p a tables None) own past.rest (at (position_after p (item ∷ [])) (a ++ gained_transactions p (item ∷ [])) goes.after None) goes.steps ∙ inner.steps;
-            position = inner.position ∙ sym (behind_one p item inner.done);
+            position = inner.position ∙ sym (after_one p item inner.done);
             applied = inner.applied ∙ append_assoc a (gained_transactions p (item ∷ [])) (gained_transactions (position_after p (item ∷ [])) inner.done) ∙ ap (λ (l : List Published). a ++ l) (sym (gained_one p item inner.done));
           }
       | inr within ↦

@@ -5,7 +5,7 @@ use Rattle.pgoutput.specs.declared.logical.Logical.TheVariants as logical
 use Rattle.pgoutput.specs.declared.messages.relation.Relation.{Relation}
 use Rattle.pgoutput.specs.declared.messages.relation.Identity.TheVariants as identities
 use Rattle.pgoutput.specs.declared.parts.tuple.Cell.TheVariants as cells
-use Rattle.pgoutput.specs.declared.word.Word.{Word}
+use Rattle.pgoutput.specs.declared.copy_both_message.CopyBothMessage.{CopyBothMessage}
 use Rattle.pgoutput.specs.declared.published.Published.{Published}
 use Rattle.pgoutput.specs.Items.{Item, KeepaliveItem, Block, xlogdata_word, keepalive_word, begin_message, commit_message, words_of}
 use Rattle.client.specs.declared.fault.ClientFault.{ClientFault}
@@ -37,10 +37,10 @@ block = Block (pos 9) transaction
 abbrev keepalive : ℕ → Item
 keepalive position = KeepaliveItem (record { position = position; clock = pos 9; ask = false })
 
-abbrev sent : List Item → List Word
+abbrev sent : List Item → List CopyBothMessage
 sent items = words_of item [] items
 
-abbrev applied : Subscriber → List Word → Result Subscriber ClientFault
+abbrev applied : Subscriber → List CopyBothMessage → Result Subscriber ClientFault
 applied = after_words
 
 -- applied once, and once more it is not
@@ -54,8 +54,8 @@ once_by_law = refl
 at_its_position : gained_transactions 0 (keepalive 0x1000030 ∷ block ∷ []) ≡ transaction ∷ []
 at_its_position = refl
 
-behind_its_position : gained_transactions 0 (keepalive 0x1000031 ∷ block ∷ []) ≡ []
-behind_its_position = refl
+after_its_position : gained_transactions 0 (keepalive 0x1000031 ∷ block ∷ []) ≡ []
+after_its_position = refl
 
 never_back : position_after 0 (keepalive 0x1000100 ∷ block ∷ keepalive 0x1000000 ∷ []) ≡ 0x1000100
 never_back = refl
@@ -93,7 +93,7 @@ note_below_the_position = refl
 abbrev message : Bool → Logical
 message is_transactional = logical.Message (record { is_transactional = is_transactional; position = 0x1000000; prefix = codes "p"; content = codes "ab" })
 
-abbrev begun_with : Logical → List Word
+abbrev begun_with : Logical → List CopyBothMessage
 begun_with m = xlogdata_word 0x1000030 (pos 9) (begin_message transaction) ∷ xlogdata_word 0x1000000 (pos 9) m ∷ xlogdata_word 0x1000050 (pos 9) (commit_message transaction) ∷ []
 
 message_within : applied (subscriber_at_rest 0 []) (begun_with (message true))
@@ -128,7 +128,7 @@ another_commit = refl
 
 -- ---- a commit that doesn't end past its start, applied before or not
 
-abbrev ending_at : ℕ → List Word
+abbrev ending_at : ℕ → List CopyBothMessage
 ending_at end = xlogdata_word 0 (pos 9) (begin_message transaction) ∷ xlogdata_word 0 (pos 9) (logical.Commit (record { position = 0x1000030; end = end; time = pos 5 })) ∷ []
 
 ends_below : applied (subscriber_at_rest 0 []) (ending_at 0) ≡ Err CommitEnd

@@ -13,9 +13,9 @@ use Rattle.pgoutput.specs.declared.parts.old_tuple.OldTuple.{OldTuple}
 use Rattle.pgoutput.specs.OldTuple.{cells_of}
 use Rattle.pgoutput.specs.declared.logical.Logical.{Logical}
 use Rattle.pgoutput.specs.declared.logical.Logical.TheVariants as logical
-use Rattle.pgoutput.specs.declared.word.Word.{Word}
-use Rattle.pgoutput.specs.declared.word.Word.TheVariants as words
-use Rattle.pgoutput.specs.declared.word.Keepalive.{Keepalive}
+use Rattle.pgoutput.specs.declared.copy_both_message.CopyBothMessage.{CopyBothMessage}
+use Rattle.pgoutput.specs.declared.copy_both_message.CopyBothMessage.TheVariants as words
+use Rattle.pgoutput.specs.declared.copy_both_message.Keepalive.{Keepalive}
 use Rattle.pgoutput.specs.declared.published.Published.{Published}
 use Rattle.pgoutput.specs.declared.published.PublishedChange.{PublishedChange}
 use Rattle.client.specs.declared.fault.ClientFault.{ClientFault}
@@ -136,12 +136,12 @@ abbrev pub after_keepalive : Option HalfTransaction → Subscriber → Keepalive
 after_keepalive None s k = record s { position = max s.position k.position }
 after_keepalive (Some half) s k = s
 
-abbrev pub after_word : Subscriber → Word → Result Subscriber ClientFault
+abbrev pub after_word : Subscriber → CopyBothMessage → Result Subscriber ClientFault
 after_word s (words.Keepalive k) = Ok (after_keepalive s.half s k)
 after_word s (words.XLogData x) = after_message s x.start x.end x.message
 
 -- one word after the other
-abbrev pub after_words : Subscriber → List Word → Result Subscriber ClientFault
+abbrev pub after_words : Subscriber → List CopyBothMessage → Result Subscriber ClientFault
 after_words s [] = Ok s
 after_words s (w ∷ ws) = after_word s w >>= λ t. after_words t ws
 

@@ -1,6 +1,6 @@
 -- What an applier makes of the bytes that it takes.
 use Rattle.std.specs.Prelude.{◌≡◌, ℕ, ◌⊎◌, List, ◌++◌, Option, Some, None, Result, Ok, Err}
-use Rattle.pgoutput.specs.declared.word.Word.{Word}
+use Rattle.pgoutput.specs.declared.copy_both_message.CopyBothMessage.{CopyBothMessage}
 use Rattle.client.specs.declared.fault.ClientFault.{ClientFault}
 use Rattle.client.specs.declared.fault.ClientFault.TheVariants.{CommitEnd, Order, UnknownRelation}
 use Rattle.client.specs.Subscriber.{Subscriber, after_word, after_words}
@@ -14,7 +14,7 @@ pub record ApplierState : Type 0 where
 
 -- The bytes are whole words, which make the one subscriber of the other, and a rest.
 pub record Reached (old : Subscriber) (bytes : List ℕ) (new : Subscriber) (rest : List ℕ) : Type 0 where
-  pub words : List Word
+  pub words : List CopyBothMessage
   pub text : List ℕ
   pub spells : AreSpelled text words
   pub is : bytes ≡ text ++ rest
@@ -22,7 +22,7 @@ pub record Reached (old : Subscriber) (bytes : List ℕ) (new : Subscriber) (res
 
 -- a word stands at the front that this subscriber refuses
 abbrev pub IsRefused : ClientFault → Subscriber → List ℕ → Type 0
-IsRefused e s rest = (w : Word) × (text more : List ℕ) × SpellsWord text w × (rest ≡ text ++ more) × (after_word s w ≡ Err e)
+IsRefused e s rest = (w : CopyBothMessage) × (text more : List ℕ) × SpellsWord text w × (rest ≡ text ++ more) × (after_word s w ≡ Err e)
 
 -- why a subscriber goes no further
 abbrev pub Stops : ClientFault → Subscriber → List ℕ → Type 0

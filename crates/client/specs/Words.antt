@@ -12,26 +12,26 @@ use Rattle.copyboth.specs.Server.{SpellsXLogData, SpellsKeepalive}
 use Rattle.pgoutput.specs.declared.fault.PgoutputError.TheVariants as outs
 use Rattle.pgoutput.specs.declared.logical.Logical.{Logical}
 use Rattle.pgoutput.specs.Logical.{SpellsLogical, Stands}
-use Rattle.pgoutput.specs.declared.word.Word.{Word}
-use Rattle.pgoutput.specs.declared.word.Word.TheVariants as words
+use Rattle.pgoutput.specs.declared.copy_both_message.CopyBothMessage.{CopyBothMessage}
+use Rattle.pgoutput.specs.declared.copy_both_message.CopyBothMessage.TheVariants as words
 use Rattle.client.specs.declared.fault.ClientFault.{ClientFault}
 use Rattle.client.specs.declared.fault.ClientFault.TheVariants.{CommitEnd, Frame, Order, UnknownRelation, Server, Memory}
 
 -- What a CopyData holds says the word: a keepalive, of whose last byte 1 asks and every other doesn't, or an XLogData
 -- with one logical message.
-abbrev pub Says : List ℕ → Word → Type 0
+abbrev pub Says : List ℕ → CopyBothMessage → Type 0
 Says body (words.Keepalive k) = SpellsKeepalive body (record { end = k.position; clock = k.clock; ask = k.ask })
 Says body (words.XLogData x) = (payload : List ℕ) × SpellsXLogData body (record { start = x.start; end = x.end; clock = x.clock; payload = payload }) × SpellsLogical payload x.message
 
 -- The text is the frame of a word, and no longer than a frame may be.
-pub record SpellsWord (text : List ℕ) (w : Word) : Type 0 where
+pub record SpellsWord (text : List ℕ) (w : CopyBothMessage) : Type 0 where
   pub body : List ℕ
   pub frame : text ≡ frame COPY_DATA body
   pub short : 4 + length body ≤ FRAME_LIMIT
   pub says : Says body w
 
 -- The text is the frames of these words, one after the other.
-abbrev pub AreSpelled : List ℕ → List Word → Type 0
+abbrev pub AreSpelled : List ℕ → List CopyBothMessage → Type 0
 AreSpelled text [] = text ≡ []
 AreSpelled text (w ∷ ws) = (front rest : List ℕ) × (text ≡ front ++ rest) × SpellsWord front w × AreSpelled rest ws
 
@@ -43,7 +43,7 @@ Waits rest = framed_back rest ≡ Ok None
 
 -- a frame that has no place in a stream: a CopyData that says no word, and any other but an ErrorResponse
 abbrev pub IsNoWord : Back → Type 0
-IsNoWord (CopyData m) = (w : Word) → Says m.bytes w → ⊥
+IsNoWord (CopyData m) = (w : CopyBothMessage) → Says m.bytes w → ⊥
 IsNoWord (ErrorResponse m) = ⊥
 IsNoWord _ = Unit {0}
 
@@ -72,7 +72,7 @@ IsUnread UnknownRelation rest = ⊥
 IsUnread CommitEnd rest = ⊥
 
 -- what reading the word at the front answers: the word and how many bytes it takes, or why there is none
-abbrev pub Reads : List ℕ → Result (Option (Word × ℕ)) ClientFault → Type 0
+abbrev pub Reads : List ℕ → Result (Option (CopyBothMessage × ℕ)) ClientFault → Type 0
 Reads bytes (Ok (Some x)) = (0 < x.1) × (x.1 ≤ length bytes) × SpellsWord (take x.1 bytes) x.0
 Reads bytes (Ok None) = Waits bytes
 Reads bytes (Err e) = IsUnread e bytes
@@ -89,14 +89,14 @@ ReadsMessage payload (Err e) = ⊥
 abbrev pub IsHeavy : List ℕ → Type 0
 IsHeavy body = (x : XLogDataBody) × SpellsXLogData body x × Stands outs.Memory x.payload
 
-abbrev pub ReadsBody : List ℕ → Result Word ClientFault → Type 0
+abbrev pub ReadsBody : List ℕ → Result CopyBothMessage ClientFault → Type 0
 ReadsBody body (Ok w) = Says body w
-ReadsBody body (Err Frame) = (w : Word) → Says body w → ⊥
+ReadsBody body (Err Frame) = (w : CopyBothMessage) → Says body w → ⊥
 ReadsBody body (Err Memory) = IsHeavy body
 ReadsBody body (Err e) = ⊥
 
 -- a CopyData that says this word
-abbrev pub IsWord : Back → Word → Type 0
+abbrev pub IsWord : Back → CopyBothMessage → Type 0
 IsWord (CopyData m) w = Says m.bytes w
 IsWord _ w = ⊥
 
@@ -104,7 +104,7 @@ abbrev pub IsHeavyFrame : Back → Type 0
 IsHeavyFrame (CopyData m) = IsHeavy m.bytes
 IsHeavyFrame _ = ⊥
 
-abbrev pub ReadsFrame : Back → Result Word ClientFault → Type 0
+abbrev pub ReadsFrame : Back → Result CopyBothMessage ClientFault → Type 0
 ReadsFrame frame (Ok w) = IsWord frame w
 ReadsFrame frame (Err Frame) = IsNoWord frame
 ReadsFrame frame (Err Server) = IsError frame

@@ -8,7 +8,9 @@ use crate::judging::{Tables, judge};
 use crate::note::note_of;
 use crate::open_transaction::OpenTransaction;
 use indexmap::IndexMap;
-use pgoutput::{Begin, Commit, Keepalive, Logical, Message, Published, Relation, Word, XLogData};
+use pgoutput::{
+    Begin, Commit, CopyBothMessage, Keepalive, Logical, Message, Published, Relation, XLogData,
+};
 use std::alloc::{AllocError, Global};
 use std::marker::Model;
 
@@ -80,15 +82,15 @@ impl Progress {
         self.half = None;
     }
 
-    pub(crate) fn apply(&mut self, word: Word) -> Result<(), ClientFault>
+    pub(crate) fn apply(&mut self, word: CopyBothMessage) -> Result<(), ClientFault>
         ensures { Makes result self.old self.new (after_word self.old word) }
     {
         match word {
-            Word::Keepalive(keepalive) => {
+            CopyBothMessage::Keepalive(keepalive) => {
                 self.keep_alive(&keepalive);
                 Ok(())
             }
-            Word::XLogData(piece) => self.hear(piece),
+            CopyBothMessage::XLogData(piece) => self.hear(piece),
         }
     }
 

@@ -6,13 +6,16 @@ ghost use Rattle.client.specs.Words.{Reads, ReadsBody, ReadsFrame, ReadsMessage,
 use crate::fault::ClientFault;
 use copyboth::{ServerBody, read_server};
 use frames::{Back, FrameFault, read_back};
-use pgoutput::{Keepalive, Logical, PgoutputError, Word, XLogData, read_logical};
+use pgoutput::{CopyBothMessage, Keepalive, Logical, PgoutputError, XLogData, read_logical};
 use std::alloc::Global;
 
 /// The word at the front, and how many bytes its frame takes; None while no frame is there whole.
 ///
 /// `Frame` (K1) at what is no frame of a stream, `Server` (K4) at an ErrorResponse, `Memory` (K5).
-pub(crate) fn read_word(alloc: Global, bytes: &[u8]) -> Result<Option<(Word, usize)>, ClientFault>
+pub(crate) fn read_word(
+    alloc: Global,
+    bytes: &[u8],
+) -> Result<Option<(CopyBothMessage, usize)>, ClientFault>
     ensures reads { Reads bytes.now result }
     ensures memory { result ≡ Err ClientFault.Memory → TakesMemory bytes.now }
 {
@@ -30,7 +33,7 @@ pub(crate) fn read_word(alloc: Global, bytes: &[u8]) -> Result<Option<(Word, usi
 }
 
 /// The word that a frame says.
-fn word_of(alloc: Global, frame: &Back) -> Result<Word, ClientFault>
+fn word_of(alloc: Global, frame: &Back) -> Result<CopyBothMessage, ClientFault>
     ensures { ReadsFrame frame.now result }
 {
     match frame {
@@ -41,21 +44,21 @@ fn word_of(alloc: Global, frame: &Back) -> Result<Word, ClientFault>
 }
 
 /// The word that the body of a CopyData says.
-fn word_in(alloc: Global, body: &[u8]) -> Result<Word, ClientFault>
+fn word_in(alloc: Global, body: &[u8]) -> Result<CopyBothMessage, ClientFault>
     ensures { ReadsBody body.now result }
 {
     let Ok(said) = read_server(body) else {
         return Err(ClientFault::Frame);
     };
     match said {
-        ServerBody::Keepalive(keepalive) => Ok(Word::Keepalive(Keepalive {
+        ServerBody::Keepalive(keepalive) => Ok(CopyBothMessage::Keepalive(Keepalive {
             position: keepalive.end,
             clock: keepalive.clock,
             ask: keepalive.ask,
         })),
         ServerBody::XLogData(data) => {
             let message = message_of(alloc, data.payload)?;
-            Ok(Word::XLogData(XLogData {
+            Ok(CopyBothMessage::XLogData(XLogData {
                 start: data.start,
                 end: data.end,
                 clock: data.clock,

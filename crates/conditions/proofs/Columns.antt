@@ -22,8 +22,8 @@ Holds places is_there = (place : ℕ) → times places place ≡ once (is_there 
 without_zero : (a b c : ℕ) → a ≡ 0 + b + c → a ≡ b + c
 without_zero a b c e = omega (arith, e)
 
-behind_zero : (a b c : ℕ) → a ≡ b + (0 + c) → a ≡ b + c
-behind_zero a b c e = omega (arith, e)
+after_zero : (a b c : ℕ) → a ≡ b + (0 + c) → a ≡ b + c
+after_zero a b c e = omega (arith, e)
 
 times_of : (xs : List ℕ) (x place : ℕ) → times (x ∷ xs) place ≡ cond (x == place) 1 0 + times xs place
 times_of xs x place = without_zero (times (x ∷ xs) place) (cond (x == place) 1 0) (times xs place) (sum_by-append (λ p. cond (p == place) 1 0) (x ∷ []) xs)
@@ -68,7 +68,7 @@ added : (f : ℕ → Bool) (xs : List ℕ) → Holds xs f → (place other : ℕ
 added f xs holds place other true t =
     holds other ∙ ap once (both_there (f other) (place == other) (λ e. ap f (sym (eqb-true place other e)) ∙ sym t))
 added f xs holds place other false t =
-    behind_zero (times (xs ++ place ∷ []) other) (times xs other) (cond (place == other) 1 0) (sum_by-append (λ p. cond (p == other) 1 0) xs (place ∷ [])) ∙ ap (λ n. n + cond (place == other) 1 0) (holds other)
+    after_zero (times (xs ++ place ∷ []) other) (times xs other) (cond (place == other) 1 0) (sum_by-append (λ p. cond (p == other) 1 0) xs (place ∷ [])) ∙ ap (λ n. n + cond (place == other) 1 0) (holds other)
     ∙ one_more (f other) (place == other) (λ e. ap f (sym (eqb-true place other e)) ∙ sym t)
 
 pub gathered_names : (condition : Condition) (xs : List ℕ) (f : ℕ → Bool) → Holds xs f → Holds (with_places_of condition xs) (λ place. f place || names condition place)

@@ -13,7 +13,7 @@ use Rattle.conditions.specs.declared.words.token.Token.TheVariants.{Word, Number
 use Rattle.conditions.specs.declared.words.token.TheConstants.{NAME_QUOTE, TEXT_QUOTE, MINUS}
 use Rattle.conditions.specs.Tokens.{is_blank, is_first, is_later, is_mark, is_pair, spelling_of_token, without_minus, Each, IsWhole, StartsWith, Spells}
 use Rattle.pqformat.specs.Quoting.{begins, in_quotes, quoted_at}
-use Rattle.conditions.specs.Lexing.{is_of, run_of, after_run, closed_token, signed_at, one_mark, mark_at, token_behind, token_from, token_at, Lexes, lent, is_stray}
+use Rattle.conditions.specs.Lexing.{is_of, run_of, after_run, closed_token, signed_at, one_mark, mark_at, token_after, token_from, token_at, Lexes, lent, is_stray}
 use Rattle.conditions.proofs.Pieces.{run_takes, run_again}
 use Rattle.pqformat.proofs.Quoting.{if_true, if_false, found, whole_takes, whole_again}
 
@@ -107,7 +107,7 @@ took_text : (b : ℕ) (bytes : List ℕ) → eqb b TEXT_QUOTE ≡ true → (o : 
 took_text b bytes same None is = stray b bytes
 took_text b bytes same (Some x) is = took_quotes b TEXT_QUOTE bytes x.0 x.1 (Text x.0) same is refl (λ end. end)
 
-took : (b : ℕ) (bytes : List ℕ) → Took (b ∷ bytes) (token_behind b bytes)
+took : (b : ℕ) (bytes : List ℕ) → Took (b ∷ bytes) (token_after b bytes)
 took b bytes =
     either_way (b ∷ bytes) (eqb b NAME_QUOTE) _ _ (λ is. took_quoted b bytes is (quoted_at false NAME_QUOTE bytes) refl) (λ n1.
     either_way (b ∷ bytes) (eqb b TEXT_QUOTE) _ _ (λ is. took_text b bytes is (quoted_at false TEXT_QUOTE bytes) refl) (λ n2.
@@ -134,7 +134,7 @@ same_token a x b y e =
 
 front_took : (bytes : List ℕ) (token : Token) (rest : List ℕ) → token_from bytes ≡ token_found token rest → Took bytes (told token rest)
 front_took [] token rest e = absurd cc
-front_took (b ∷ bytes) token rest e = subst (Took (b ∷ bytes)) (same_pair (token_behind b bytes) (told token rest) e) (took b bytes)
+front_took (b ∷ bytes) token rest e = subst (Took (b ∷ bytes)) (same_pair (token_after b bytes) (told token rest) e) (took b bytes)
 
 pub token_takes : (text : List ℕ) (token : Token) (rest : List ℕ) → token_at text ≡ token_found token rest → token ≢ Stray → StartsWith text token rest
 unfolding token_at
@@ -176,7 +176,7 @@ mark_other b is = record { blank = grind (arith, nat_tests); name = grind (arith
 pair_other : (b c : ℕ) → is_pair b c ≡ true → IsOther b
 pair_other b c is = record { blank = grind (arith, nat_tests); name = grind (arith, nat_tests); text = grind (arith, nat_tests); first = grind (arith, nat_tests); digit = grind (arith, nat_tests); minus = grind (arith, nat_tests) }
 
-other_reads : (b : ℕ) (bytes : List ℕ) → IsOther b → token_behind b bytes ≡ mark_at b bytes
+other_reads : (b : ℕ) (bytes : List ℕ) → IsOther b → token_after b bytes ≡ mark_at b bytes
 other_reads b bytes other =
     if_false (eqb b NAME_QUOTE) _ _ other.name ∙ if_false (eqb b TEXT_QUOTE) _ _ other.text ∙ if_false (is_first b) _ _ other.first ∙ if_false (is_ascii_digit b) _ _ other.digit
     ∙ if_false (eqb b MINUS) _ _ other.minus

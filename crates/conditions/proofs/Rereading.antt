@@ -5,8 +5,8 @@ use Rattle.std.proofs.lemmas.List.{append-nil}
 use Rattle.std.specs.Prelude.{option_and_then, if◌then◌else◌}
 use Rattle.conditions.specs.declared.trees.joint.Joint.{Joint}
 use Rattle.conditions.specs.declared.trees.joint.Joint.TheVariants as joints
-use Rattle.conditions.specs.declared.values.question.Question.{Question}
-use Rattle.conditions.specs.declared.values.question.Question.TheVariants as questions
+use Rattle.conditions.specs.declared.values.is_test.IsTest.{IsTest}
+use Rattle.conditions.specs.declared.values.is_test.IsTest.TheVariants as questions
 use Rattle.conditions.specs.Words.{Saying, SayAnd, SayOr, SayNot, SayIs, SayComparison, SayOpen, SayClose}
 use Rattle.conditions.specs.Grammar.{Phrase, InName, InUnknown, InNumber, InText, InBool, InNull, InParentheses, InCompare, InIs, InNot, InAnd, InOr, saying_of_question, sayings_of, tightness, IsBound}
 use Rattle.conditions.specs.Stacks.{binds, left_of, Pending, Enclosing, Denying, Joining, wants, completed, State, Wanting, Having, Asking, wanted_by, folded, joins, asks, closes_over, ends_over, run, word_of}
@@ -90,7 +90,7 @@ asks_on stack a rest most tight =
     ap (λ (x : Items × Phrase). option_and_then (λ to. reads to rest) (asks phrases x)) (folded_stops 3 stack a most)
     ∙ ap (option_and_then (λ to. reads to rest)) (if_false (nat_lt (tightness a) 4) None (Some (Asking stack a false)) (le-ltb (tightness a) 4 tight))
 
-answers_on : (stack : Items) (a : Phrase) (question : Question) (negated : Bool) (rest : Sayings)
+answers_on : (stack : Items) (a : Phrase) (question : IsTest) (negated : Bool) (rest : Sayings)
     → reads (Asking stack a false) ((if negated then (SayNot ∷ []) else []) ++ saying_of_question question ∷ rest) ≡ reads (Having stack (InIs question negated a)) rest
 answers_on stack a questions.Null false rest = refl
 answers_on stack a questions.True false rest = refl

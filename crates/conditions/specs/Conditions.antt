@@ -1,7 +1,7 @@
 -- What a filter says, as a tree, and the columns that it names.
 use Rattle.std.specs.Prelude.{◌≡◌, ℕ, ◌==◌, Bool, false, ◌||◌, ℤ, if◌then◌else◌, List, count_by}
 use Rattle.conditions.specs.declared.values.comparison.Comparison.{Comparison}
-use Rattle.conditions.specs.declared.values.question.Question.{Question}
+use Rattle.conditions.specs.declared.values.is_test.IsTest.{IsTest}
 
 -- a value as conditions see it: integers of all widths are alike, and unknown is null
 pub data Datum : Type 0 where
@@ -16,7 +16,7 @@ pub data Condition : Type 0 where
   Column : ℕ → Condition
   Literal : Datum → Condition
   Compare : Comparison → Condition → Condition → Condition
-  Is : Question → Bool → Condition → Condition
+  Is : IsTest → Bool → Condition → Condition
   Not : Condition → Condition
   And : Condition → Condition → Condition
   Or : Condition → Condition → Condition

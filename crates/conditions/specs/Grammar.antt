@@ -8,8 +8,8 @@ use Rattle.conditions.specs.declared.words.token.Token.{Token}
 use Rattle.conditions.specs.declared.fault.FilterFault.{FilterFault}
 use Rattle.conditions.specs.declared.fault.FilterFault.TheVariants.{Syntax, UnknownColumn, TypeMismatch, NumberRange, TooDeep, Memory}
 use Rattle.conditions.specs.declared.values.comparison.Comparison.{Comparison}
-use Rattle.conditions.specs.declared.values.question.Question.{Question}
-use Rattle.conditions.specs.declared.values.question.Question.TheVariants as questions
+use Rattle.conditions.specs.declared.values.is_test.IsTest.{IsTest}
+use Rattle.conditions.specs.declared.values.is_test.IsTest.TheVariants as questions
 use Rattle.conditions.specs.Conditions.{Missing, Flag, Number, Bytes, Condition, Column, Literal, Compare, Is, Not, And, Or}
 use Rattle.conditions.specs.Tokens.{Spells}
 use Rattle.conditions.specs.Words.{Saying, SayAnd, SayOr, SayNot, SayIs, SayNull, SayBool, SayUnknown, SayName, SayNumber, SayText, SayComparison, SayOpen, SayClose, said_by_all}
@@ -25,14 +25,14 @@ pub data Phrase : Type 0 where
   InNull : Phrase
   InParentheses : Phrase → Phrase
   InCompare : Comparison → Phrase → Phrase → Phrase
-  InIs : Question → Bool → Phrase → Phrase
+  InIs : IsTest → Bool → Phrase → Phrase
   InNot : Phrase → Phrase
   InAnd : Phrase → Phrase → Phrase
   InOr : Phrase → Phrase → Phrase
 
 -- ---- how it is written
 
-abbrev pub saying_of_question : Question → Saying
+abbrev pub saying_of_question : IsTest → Saying
 saying_of_question questions.Null = SayNull
 saying_of_question questions.True = SayBool true
 saying_of_question questions.False = SayBool false

@@ -8,8 +8,8 @@ use Rattle.tables.specs.declared.kinds.Value.TheVariants as values
 use Rattle.tables.specs.Kinds.{uuid_of_text}
 use Rattle.conditions.specs.declared.values.sort.Sort.{Sort}
 use Rattle.conditions.specs.declared.values.sort.Sort.TheVariants.{Any, Truths, Numbers, Texts, UuidTexts, Uuids, Incomparable}
-use Rattle.conditions.specs.declared.values.question.Question.{Question}
-use Rattle.conditions.specs.declared.values.question.Question.TheVariants as questions
+use Rattle.conditions.specs.declared.values.is_test.IsTest.{IsTest}
+use Rattle.conditions.specs.declared.values.is_test.IsTest.TheVariants as questions
 use Rattle.conditions.specs.Conditions.{Datum, Missing, Flag, Number, Bytes, Uuid, Condition, Column, Literal, Compare, Is, Not, And, Or}
 
 -- int2, int4 and int8 are all whole numbers; null is of any kind; of a kind that is kept as text only whether it is null is asked
@@ -65,7 +65,7 @@ is_truth Truths = true
 is_truth _ = false
 
 -- IS NULL is asked of anything, the others of a condition
-abbrev pub is_asked : Question → Sort → Bool
+abbrev pub is_asked : IsTest → Sort → Bool
 is_asked questions.Null sort = true
 is_asked question sort = is_truth sort
 

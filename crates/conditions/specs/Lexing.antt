@@ -43,8 +43,8 @@ abbrev pub mark_at : ℕ → List ℕ → Token × List ℕ
 mark_at b [] = one_mark b []
 mark_at b (c ∷ bytes) = if is_pair b c then (Pair b c, bytes) else one_mark b (c ∷ bytes)
 
-abbrev pub token_behind : ℕ → List ℕ → Token × List ℕ
-token_behind b bytes =
+abbrev pub token_after : ℕ → List ℕ → Token × List ℕ
+token_after b bytes =
     if b == NAME_QUOTE then closed_token (λ n. Quoted n) (quoted_at false NAME_QUOTE bytes)
     else if b == TEXT_QUOTE then closed_token (λ t. Text t) (quoted_at false TEXT_QUOTE bytes)
     else if is_first b then (Word (run_of classes.Later (b ∷ bytes)), after_run classes.Later (b ∷ bytes))
@@ -54,7 +54,7 @@ token_behind b bytes =
 
 abbrev pub token_from : List ℕ → Option (Token × List ℕ)
 token_from [] = None
-token_from (b ∷ bytes) = Some (token_behind b bytes)
+token_from (b ∷ bytes) = Some (token_after b bytes)
 
 -- the first token, and what follows it; None where only blanks are left
 unfoldable pub token_at : List ℕ → Option (Token × List ℕ)

@@ -3,8 +3,8 @@
 use Rattle.std.specs.Prelude.{ℕ, nat_lt, List, [], ◌∷◌, Option, Some, None, option_and_then, Bool, true, false, if◌then◌else◌}
 use Rattle.conditions.specs.declared.trees.joint.Joint.{Joint}
 use Rattle.conditions.specs.declared.trees.joint.Joint.TheVariants as joints
-use Rattle.conditions.specs.declared.values.question.Question.{Question}
-use Rattle.conditions.specs.declared.values.question.Question.TheVariants as questions
+use Rattle.conditions.specs.declared.values.is_test.IsTest.{IsTest}
+use Rattle.conditions.specs.declared.values.is_test.IsTest.TheVariants as questions
 use Rattle.conditions.specs.Words.{Saying, SayAnd, SayOr, SayNot, SayIs, SayNull, SayBool, SayUnknown, SayName, SayNumber, SayText, SayComparison, SayOpen, SayClose}
 
 -- how tight it binds, and its two sides at least: OR, AND, and a comparison, whose sides are operands
@@ -28,7 +28,7 @@ pub record Trees (A : Type 0) : Type 0 where
   pub tight : A → ℕ
   pub joined : Joint → A → A → A
   pub denied : A → A
-  pub asked : Question → Bool → A → A
+  pub asked : IsTest → Bool → A → A
   pub enclosed : A → A
 
 -- A word of a filter. NULL, TRUE, FALSE and a bare unknown are operands, and after IS they are what it asks.
@@ -38,7 +38,7 @@ pub data Word (A : Type 0) : Type 0 where
   Asks : Word A
   Opens : Word A
   Closes : Word A
-  Operand : A → Option Question → Word A
+  Operand : A → Option IsTest → Word A
   Stray : Word A
 
 -- what waits for what stands on its right: a parenthesis, NOT, or a joint with its left side
@@ -120,7 +120,7 @@ run trees state (word ∷ words) = option_and_then (λ next. run trees next word
 
 -- ---- the word that is said; leaf gives the tree of an operand
 
-abbrev pub asked_by : Bool → Question
+abbrev pub asked_by : Bool → IsTest
 asked_by true = questions.True
 asked_by false = questions.False
 

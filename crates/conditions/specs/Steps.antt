@@ -5,8 +5,8 @@ use Rattle.conditions.specs.declared.values.comparison.Comparison.{Comparison}
 use Rattle.conditions.specs.declared.values.comparison.Comparison.TheVariants as signs
 use Rattle.conditions.specs.declared.flat.step.Step.{Step}
 use Rattle.conditions.specs.declared.flat.step.NumberRead.{NumberRead}
-use Rattle.conditions.specs.declared.flat.step.Asked.{Asked}
-use Rattle.conditions.specs.declared.flat.step.Asked.TheVariants as asked
+use Rattle.conditions.specs.declared.flat.step.StepCondition.{StepCondition}
+use Rattle.conditions.specs.declared.flat.step.StepCondition.TheVariants as asked
 use Rattle.conditions.specs.Conditions.{Datum, Number, Bytes, Condition, Column, Literal, Compare, And, Or}
 use Rattle.conditions.specs.Shapes.{shape}
 use Rattle.conditions.specs.Truth.{datum_at}
@@ -21,7 +21,7 @@ abbrev pub text_asked : Comparison → ℕ → List ℕ → Condition
 text_asked how place text = Compare how (Column place) (Literal (Bytes text))
 
 -- the condition that a step asks
-abbrev pub condition_asked : Asked → Condition
+abbrev pub condition_asked : StepCondition → Condition
 condition_asked (asked.Equal place n) = number_asked signs.Equal place n
 condition_asked (asked.NotEqual place n) = number_asked signs.NotEqual place n
 condition_asked (asked.Less place n) = number_asked signs.Less place n

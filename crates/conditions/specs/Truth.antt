@@ -9,8 +9,8 @@ use Rattle.conditions.specs.declared.truth.Truth.{Truth}
 use Rattle.conditions.specs.declared.truth.Truth.TheVariants.{True, False, Unknown}
 use Rattle.conditions.specs.declared.values.comparison.Comparison.{Comparison}
 use Rattle.conditions.specs.declared.values.comparison.Comparison.TheVariants.{Equal, NotEqual, Less, Greater, LessOrEqual, GreaterOrEqual}
-use Rattle.conditions.specs.declared.values.question.Question.{Question}
-use Rattle.conditions.specs.declared.values.question.Question.TheVariants as questions
+use Rattle.conditions.specs.declared.values.is_test.IsTest.{IsTest}
+use Rattle.conditions.specs.declared.values.is_test.IsTest.TheVariants as questions
 use Rattle.conditions.specs.Kinds.{datum_of}
 use Rattle.conditions.specs.Conditions.{Datum, Missing, Flag, Number, Bytes, Uuid, Condition, Column, Literal, Compare, Is, Not, And, Or}
 
@@ -79,7 +79,7 @@ abbrev pub truth_of_comparison : Comparison → Datum → Datum → Truth
 truth_of_comparison how a b = compared_by how (ordering_of a b)
 
 -- IS is never unknown.
-abbrev pub answer_to_question : Question → Datum → Bool
+abbrev pub answer_to_question : IsTest → Datum → Bool
 answer_to_question questions.Null Missing = true
 answer_to_question questions.Unknown Missing = true
 answer_to_question questions.True (Flag b) = b

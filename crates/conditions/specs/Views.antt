@@ -6,10 +6,10 @@ use Rattle.conditions.specs.declared.trees.part.Tree.{Tree}
 pub use Rattle.conditions.specs.declared.trees.pending.Pending.{Pending as Item}
 use Rattle.conditions.specs.declared.trees.pending.Pending.TheVariants as items
 use Rattle.conditions.specs.declared.fault.FilterFault.TheVariants.{Memory, Syntax}
-use Rattle.conditions.specs.declared.trees.place.Place.{Place}
-use Rattle.conditions.specs.declared.trees.place.Place.TheVariants as places
-use Rattle.conditions.specs.declared.words.word.Word.{Word as Read}
-use Rattle.conditions.specs.declared.words.word.Word.TheVariants as reads
+use Rattle.conditions.specs.declared.trees.parser_state.ParserState.{ParserState}
+use Rattle.conditions.specs.declared.trees.parser_state.ParserState.TheVariants as places
+use Rattle.conditions.specs.declared.words.filter_word.FilterWord.{FilterWord as Read}
+use Rattle.conditions.specs.declared.words.filter_word.FilterWord.TheVariants as reads
 use Rattle.conditions.specs.Conditions.{Condition}
 use Rattle.conditions.specs.Shapes.{shape}
 use Rattle.conditions.specs.Stacks.{Pending, Enclosing, Denying, Joining, State, Wanting, Having, Asking, Word, Joins, Denies, Asks, Opens, Closes, Operand, Stray}
@@ -47,13 +47,13 @@ seen_word reads.Close = Closes
 seen_word (reads.Operand part question) = Operand (seen_part part) question
 seen_word reads.Stray = Stray
 
-abbrev pub state_of : List Item → Place → State Grown
+abbrev pub state_of : List Item → ParserState → State Grown
 state_of items places.Wanting = Wanting (stack_of items)
 state_of items (places.Having part) = Having (stack_of items) (seen_part part)
 state_of items (places.Asking part negated) = Asking (stack_of items) (seen_part part) negated
 
 -- A call that moves to this state, unless memory ran out; Syntax where there is none.
-abbrev pub Moves : Result Place FilterFault → List Item → Option (State Grown) → Type 0
+abbrev pub Moves : Result ParserState FilterFault → List Item → Option (State Grown) → Type 0
 Moves (Ok place) items state = state ≡ Some (state_of items place)
 Moves (Err Syntax) items state = state ≡ None
 Moves (Err Memory) items state = Unit {0}

@@ -10,8 +10,8 @@ use crate::literal::Literal;
 use crate::truth::Truth;
 use crate::values::against::column_against;
 use crate::values::comparison::Comparison;
+use crate::values::is_test::IsTest;
 use crate::values::operand::Operand;
-use crate::values::question::Question;
 use crate::values::sort::{Sort, sort_asked, sort_compared, sort_denied, sort_joined};
 use std::alloc::{AllocError, Global};
 use tables::{Column, RowRef};
@@ -24,7 +24,7 @@ pub enum Expression {
     Literal(Literal),
     Compare(Comparison, Box<Expression>, Box<Expression>),
     /// IS, or IS NOT where the flag is set.
-    Is(Question, bool, Box<Expression>),
+    Is(IsTest, bool, Box<Expression>),
     Not(Box<Expression>),
     And(Box<Expression>, Box<Expression>),
     Or(Box<Expression>, Box<Expression>),
@@ -225,7 +225,7 @@ impl Expression {
         }
         match self {
             Expression::Column(_) | Expression::Literal(_) => Some(0),
-            Expression::Is(Question::Null, _, a) => a.mismatch(columns, false),
+            Expression::Is(IsTest::Null, _, a) => a.mismatch(columns, false),
             Expression::Is(_, _, a) | Expression::Not(a) => a.mismatch(columns, true),
             Expression::Compare(_, a, b) => match a.mismatch(columns, false) {
                 Some(before) => Some(before),

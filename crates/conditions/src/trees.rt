@@ -1,7 +1,7 @@
 //! From words to a tree.
 
 pub(crate) mod joint;
+pub(crate) mod parser_state;
 pub(crate) mod part;
 pub(crate) mod pending;
-pub(crate) mod place;
 pub(crate) mod tightness;

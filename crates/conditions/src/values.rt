@@ -2,7 +2,7 @@
 
 pub(crate) mod against;
 pub(crate) mod comparison;
+pub(crate) mod is_test;
 pub(crate) mod kinds;
 pub(crate) mod operand;
-pub(crate) mod question;
 pub(crate) mod sort;

@@ -5,7 +5,7 @@ use Rattle.std.specs.Str.{bytes_eq}
 use Rattle.toml.specs.Data.{Data, Members, no_members, member, get, as_str, as_integer, as_table}
 use Rattle.pqformat.specs.Steps.{◌>>=◌}
 use Rattle.tables.specs.declared.table.Table.{Table}
-use Rattle.catalog.specs.declared.config_fault.Misfit.{Misfit}
+use Rattle.catalog.specs.declared.config_fault.CatalogMisfit.{CatalogMisfit}
 use Rattle.catalog.specs.declared.config_fault.CatalogFault.TheVariants as catalog_faults
 use Rattle.catalog.specs.Config.{and_then, told_member, tables_in, document_of}
 use Rattle.txlog.specs.declared.limits.TheConstants.{MAX_RECORDS}
@@ -15,8 +15,8 @@ use Rattle.publication.specs.Publications.{PublicationSet}
 use Rattle.publication_config.specs.Config.{publications_in}
 use Rattle.configuration.specs.declared.server.TheConstants.{MAX_CHUNKS, MAX_SYSTEMID}
 use Rattle.configuration.specs.declared.server.Server.{Server}
-use Rattle.configuration.specs.declared.server.Unread.{Unread}
-use Rattle.configuration.specs.declared.server.Unread.TheVariants as unread
+use Rattle.configuration.specs.declared.server.UnreadServer.{UnreadServer}
+use Rattle.configuration.specs.declared.server.UnreadServer.TheVariants as unread
 use Rattle.configuration.specs.declared.config_fault.ServerMisfit.{ServerMisfit}
 use Rattle.configuration.specs.declared.config_fault.ServerMisfit.TheVariants as misfits
 use Rattle.configuration.specs.declared.config_fault.ConfigFault.{ConfigFault}
@@ -68,13 +68,13 @@ unfoldable pub server_of : Data → Result Server ServerMisfit
 server_of d = if has_another_in is_part (as_table d) then Err misfits.AnotherPart else ok_or (get (codes "server") d) misfits.NoServer >>= server_in
 
 -- what reading a server answers, memory apart
-abbrev pub ReadsServer : Result Server Unread → Result Server ServerMisfit → Type 0
+abbrev pub ReadsServer : Result Server UnreadServer → Result Server ServerMisfit → Type 0
 ReadsServer (Ok server) read = read ≡ Ok server
 ReadsServer (Err (unread.Wrong misfit)) read = read ≡ Err misfit
 ReadsServer (Err unread.Memory) read = Unit {0}
 
 -- why no server was read, as a fault of the configuration
-abbrev pub unread_fault : Unread → ConfigFault
+abbrev pub unread_fault : UnreadServer → ConfigFault
 unread_fault (unread.Wrong misfit) = faults.BadServer misfit
 unread_fault unread.Memory = faults.Memory
 
@@ -94,7 +94,7 @@ with_publications tables (Ok publications) server = with_server tables publicati
 with_publications tables (Err fault) server = Err (faults.Publications fault)
 
 -- the tables first, then the publications over them, then the server
-abbrev pub setting_with : Data → Result (List Table) Misfit → Result Setting ConfigFault
+abbrev pub setting_with : Data → Result (List Table) CatalogMisfit → Result Setting ConfigFault
 setting_with d (Ok tables) = with_publications tables (publications_in tables d) (server_of d)
 setting_with d (Err misfit) = Err (faults.Catalog (catalog_faults.BadTables misfit))
 

@@ -7,7 +7,7 @@ ghost use Rattle.configuration.specs.Config.{IsServer, Names, ReadsSetting, name
 use crate::columns::{KINDS, Untyped, untyped_column, vague_column};
 use crate::config_fault::ConfigFault;
 use crate::server::{Server, server_of};
-use catalog::{Catalog, CatalogFault, Member, Misfit, read_document};
+use catalog::{Catalog, CatalogFault, CatalogMember, CatalogMisfit, read_document};
 use publication::{PubFault, Publications};
 use std::alloc::{AllocError, Global};
 use std::marker::Model;
@@ -54,12 +54,12 @@ pub fn explained(alloc: Global, text: &str, fault: &ConfigFault) -> Result<Strin
     match fault {
         ConfigFault::Publications(why) => of_publications(alloc, text, fault, *why),
         ConfigFault::Catalog(CatalogFault::NotToml(_)) => of_reader(alloc, text, fault),
-        ConfigFault::Catalog(CatalogFault::BadTables(Misfit::Table(table, Member::Columns))) => {
-            of_columns(alloc, text, fault, *table)
-        }
-        ConfigFault::Catalog(CatalogFault::BadTables(Misfit::Table(table, Member::Key))) => {
-            of_key(alloc, text, fault, *table)
-        }
+        ConfigFault::Catalog(
+            CatalogFault::BadTables(CatalogMisfit::Table(table, CatalogMember::Columns)),
+        ) => { of_columns(alloc, text, fault, *table) }
+        ConfigFault::Catalog(
+            CatalogFault::BadTables(CatalogMisfit::Table(table, CatalogMember::Key)),
+        ) => { of_key(alloc, text, fault, *table) }
         _ => fault.to_string(alloc),
     }
 }

@@ -4,7 +4,7 @@ ghost use Rattle.std.specs.Prelude.{◌≡◌};
 ghost use Rattle.configuration.specs.declared.config_fault.ConfigFault.TheVariants.{Catalog, Memory, Publications};
 ghost use Rattle.configuration.specs.Config.{is_memory, unread_fault};
 
-use crate::server::Unread;
+use crate::server::UnreadServer;
 use catalog::CatalogFault;
 use publication::PubFault;
 use std::alloc::AllocError;
@@ -82,13 +82,13 @@ impl From<PubFault> for ConfigFault {
     }
 }
 
-impl From<Unread> for ConfigFault {
+impl From<UnreadServer> for ConfigFault {
     ghost from_gives = { λ unread e. e ≡ unread_fault unread };
 
-    fn from(unread: Unread) -> ConfigFault {
+    fn from(unread: UnreadServer) -> ConfigFault {
         match unread {
-            Unread::Wrong(misfit) => ConfigFault::BadServer(misfit),
-            Unread::Memory => ConfigFault::Memory,
+            UnreadServer::Wrong(misfit) => ConfigFault::BadServer(misfit),
+            UnreadServer::Memory => ConfigFault::Memory,
         }
     }
 }

@@ -6,7 +6,7 @@ ghost use Rattle.toml.specs.Data.{as_table, get};
 ghost use Rattle.std.specs.BTreeMap.{keys};
 ghost use Rattle.toml.specs.View.{view};
 ghost use Rattle.catalog.specs.Config.{and_then};
-ghost use Rattle.configuration.specs.declared.server.Unread.TheVariants.{Memory};
+ghost use Rattle.configuration.specs.declared.server.UnreadServer.TheVariants.{Memory};
 ghost use Rattle.configuration.specs.Config.{IsServer, ReadsServer, has_another_in, is_of_server, is_part, number_in, server_in, server_of, text_in};
 
 use crate::config_fault::ServerMisfit;
@@ -34,48 +34,50 @@ pub struct Server {
 
 /// Why no server was read.
 #[derive(Clone, Copy, PartialEq, Eq)]
-pub(crate) enum Unread {
+pub(crate) enum UnreadServer {
     Wrong(ServerMisfit),
     Memory,
 }
 
-impl From<AllocError> for Unread {
+impl From<AllocError> for UnreadServer {
     ghost from_gives = { λ _ e. e ≡ Memory };
 
-    fn from(_e: AllocError) -> Unread {
-        Unread::Memory
+    fn from(_e: AllocError) -> UnreadServer {
+        UnreadServer::Memory
     }
 }
 
 /// The server that a configuration names, or what is wrong with it.
 #[tactic(auto, unfolding(crate::specs::Config::server_of))]
-pub(crate) fn server_of(alloc: Global, document: &Value) -> Result<Server, Unread>
+pub(crate) fn server_of(alloc: Global, document: &Value) -> Result<Server, UnreadServer>
     ensures value { ReadsServer result (server_of (view document.now)) }
     ensures fits { IfOk result IsServer }
 {
     if has_another_part(document) {
-        return Err(Unread::Wrong(ServerMisfit::AnotherPart));
+        return Err(UnreadServer::Wrong(ServerMisfit::AnotherPart));
     }
     match document.get("server") {
         Some(server) => server_in(alloc, server),
-        None => Err(Unread::Wrong(ServerMisfit::NoServer)),
+        None => Err(UnreadServer::Wrong(ServerMisfit::NoServer)),
     }
 }
 
 #[tactic(auto, unfolding(crate::specs::Config::server_in))]
-fn server_in(alloc: Global, value: &Value) -> Result<Server, Unread>
+fn server_in(alloc: Global, value: &Value) -> Result<Server, UnreadServer>
     ensures value { ReadsServer result (server_in (view value.now)) }
     ensures fits { IfOk result IsServer }
 {
-    let systemid = text_at(value, "systemid", MAX_SYSTEMID).ok_or(Unread::Wrong(
+    let systemid = text_at(value, "systemid", MAX_SYSTEMID).ok_or(UnreadServer::Wrong(
         ServerMisfit::Systemid,
     ))?;
-    let records = number_at(value, "records", MAX_RECORDS).ok_or(Unread::Wrong(
+    let records = number_at(value, "records", MAX_RECORDS).ok_or(UnreadServer::Wrong(
         ServerMisfit::Records,
     ))?;
-    let chunks = number_at(value, "chunks", MAX_CHUNKS).ok_or(Unread::Wrong(ServerMisfit::Chunks))?;
+    let chunks = number_at(value, "chunks", MAX_CHUNKS).ok_or(UnreadServer::Wrong(
+        ServerMisfit::Chunks,
+    ))?;
     if has_others(value) {
-        return Err(Unread::Wrong(ServerMisfit::Other));
+        return Err(UnreadServer::Wrong(ServerMisfit::Other));
     }
     Ok(Server {
         systemid: Text::copy_of(alloc, systemid)?,

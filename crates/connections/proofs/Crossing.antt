@@ -11,7 +11,7 @@ use Rattle.slots.specs.declared.rule.SlotName as slot_name
 use Rattle.slots.proofs.lease.Lease.TheSendSync as lease
 use Rattle.slots.proofs.seat.SlotSeat.TheSendSync as seat
 use Rattle.connections.proofs.fault.ConnectionEnd.TheSendSync as end
-use Rattle.connections.proofs.fault.Unserved.TheSendSync as unserved
+use Rattle.connections.proofs.fault.ConnectionRefusal.TheSendSync as unserved
 use Rattle.connections.proofs.slot.slot_keeping.SlotKeeping.TheSendSync as keeping
 use Rattle.connections.specs.contracts.socket.arrival.Arrival as arrival
 use Rattle.connections.specs.contracts.socket.arrival.Arriving as arriving
@@ -49,7 +49,7 @@ pub monitor_sync : IsSync monitor.the_row
 monitor_sync = declared_sync monitor.the_type (search (known_send, heap.crosses, sendable) depth 20, (search (heap.crosses, sendable) depth 10, tt))
 
 served_send : IsSend served.the_row
-served_send = declared_send served.the_type (search sendable, (socket.the_send, tt))
+served_send = declared_send served.the_type (search sendable, (socket.the_send, (search sendable, tt)))
 
 pub sockets_sync : IsSync sockets.the_row
 sockets_sync = declared_sync sockets.the_type (search (served_send, heap.crosses, sendable) depth 20, (search (heap.crosses, sendable) depth 10, tt))

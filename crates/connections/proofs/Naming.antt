@@ -5,7 +5,7 @@ use Rattle.std.specs.Option.{is_some}
 use Rattle.slots.specs.Directories.{AreSame, ChangesOnly, adding_fault, place_of}
 use Rattle.slots.specs.declared.by_name.directory.Directory.{Directory}
 use Rattle.slots.specs.declared.fault.SlotFault.{SlotFault}
-use Rattle.slots.specs.declared.words_kept.step.View.{View}
+use Rattle.slots.specs.declared.words_kept.step.SeatView.{SeatView}
 use Rattle.slots.specs.declared.table.TheConstants.{END_OF_PLACES}
 use Rattle.connections.specs.Names.{AreInTable, IsMadeAndDropped, IsNoNewSlot}
 
@@ -34,11 +34,11 @@ removed_in_table old new name changes inside other x is =
     chosen (bytes_eq name other) None (place_of old other) none_below (inside other) x (sym (changes other) ∙ is)
 
 -- a name that was free is refused for memory alone
-free_refused : (place : Option ℕ) (position : ℕ) (old new : View) → IsMadeAndDropped position old new → is_some place ≡ false → IsNoNewSlot (adding_fault place) place position old new
+free_refused : (place : Option ℕ) (position : ℕ) (old new : SeatView) → IsMadeAndDropped position old new → is_some place ≡ false → IsNoNewSlot (adding_fault place) place position old new
 free_refused None position old new made free = (refl, made)
 free_refused (Some place) position old new made free = let e : true ≡ false = free in absurd (true≢false e)
 
-pub refused : (names : Directory) (name : List ℕ) (position : ℕ) (old new : View) → IsMadeAndDropped position old new → (found : Option ℕ) → found ≡ place_of names name → (there : Bool) → there ≡ is_some found → there ≡ false → (fault : SlotFault)
+pub refused : (names : Directory) (name : List ℕ) (position : ℕ) (old new : SeatView) → IsMadeAndDropped position old new → (found : Option ℕ) → found ≡ place_of names name → (there : Bool) → there ≡ is_some found → there ≡ false → (fault : SlotFault)
     → fault ≡ adding_fault (place_of names name) → IsNoNewSlot fault (place_of names name) position old new
 refused names name position old new made found is there some free fault faults =
     let none : is_some (place_of names name) ≡ false = grind (arith) in

@@ -125,6 +125,14 @@ impl<S> ConnectionMailbox<S> {
         );
     }
 
+    /// Waits until the client of a stream tells nothing more of it: its side is closed, or its CopyDone came.
+    pub fn await_last_status<R: Wait>(&self, rt: &R) {
+        drop(
+            self.filled
+                .wait_while(rt, self.inbox.lock(rt), |inbox| inbox.is_streaming()),
+        );
+    }
+
     /// Waits until nothing more comes from the client.
     pub fn await_close<R: Wait>(&self, rt: &R) {
         drop(

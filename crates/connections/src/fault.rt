@@ -13,12 +13,12 @@ pub enum AcceptError {
     #[error("a connection could not be accepted: {0}")]
     Accept(io::Error),
     #[error("a connection was closed, since {0}")]
-    Closed(Unserved),
+    Closed(ConnectionRefusal),
 }
 
 /// Why a connection that came is not served.
 #[derive(Clone, Copy, Debug, PartialEq, Eq, Error)]
-pub enum Unserved {
+pub enum ConnectionRefusal {
     #[error("no thread was to be had for it")]
     Thread,
     #[error("no descriptor was to be had for it")]

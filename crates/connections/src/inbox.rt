@@ -161,6 +161,13 @@ impl Inbox {
         self.phase == Phase::Closed
     }
 
+    /// Whether the client of a stream may still send statuses.
+    pub fn is_streaming(&self) -> bool
+        ensures { (result ≡ true) ↔ (self.now.phase ≡ Phase.Streaming) }
+    {
+        self.phase == Phase::Streaming
+    }
+
     /// Whether what the client of a stream sends is read as it comes, so that its silence is noticed: nothing waits to be said.
     pub fn is_heard(&self) -> bool
         ensures { (result ≡ true)

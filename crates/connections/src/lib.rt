@@ -21,7 +21,7 @@ mod socket;
 mod words;
 
 pub use connection_mailbox::ConnectionMailbox;
-pub use fault::{AcceptError, ConnectionEnd, Unserved};
+pub use fault::{AcceptError, ConnectionEnd, ConnectionRefusal};
 pub use inbox::{Inbox, Work};
 pub use refused_command::RefusedCommand;
 pub use server_observer::{NoopObserver, ServerObserver};

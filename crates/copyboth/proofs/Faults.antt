@@ -28,15 +28,15 @@ longer n bytes there false e = le-ltb (8 + n) (length bytes) (omega (arith, ltb-
 abbrev behind : List ℕ → Option CopyFault → Option CopyFault
 behind bytes fault = cond (ltb (length bytes) 8) (Some Short) fault
 
-at_least_behind : (n : ℕ) (bytes : List ℕ) → at_least (8 + n) bytes ≡ behind bytes (at_least n (drop 8 bytes))
-at_least_behind n bytes = by_test (ltb (length bytes) 8) refl
+at_least_after : (n : ℕ) (bytes : List ℕ) → at_least (8 + n) bytes ≡ behind bytes (at_least n (drop 8 bytes))
+at_least_after n bytes = by_test (ltb (length bytes) 8) refl
   where
     by_test : (b : Bool) → ltb (length bytes) 8 ≡ b → at_least (8 + n) bytes ≡ cond b (Some Short) (at_least n (drop 8 bytes))
     by_test true e = rw (lt-ltb (length bytes) (8 + n) (omega (arith, ltb-true _ _ e))) refl
     by_test false e = rw (shorter n bytes e (ltb (length (drop 8 bytes)) n) refl) refl
 
-exactly_behind : (n : ℕ) (bytes : List ℕ) → exactly (8 + n) bytes ≡ behind bytes (exactly n (drop 8 bytes))
-exactly_behind n bytes = by_test (ltb (length bytes) 8) refl
+exactly_after : (n : ℕ) (bytes : List ℕ) → exactly (8 + n) bytes ≡ behind bytes (exactly n (drop 8 bytes))
+exactly_after n bytes = by_test (ltb (length bytes) 8) refl
   where
     by_test : (b : Bool) → ltb (length bytes) 8 ≡ b → exactly (8 + n) bytes ≡ cond b (Some Short) (exactly n (drop 8 bytes))
     by_test true e = rw (lt-ltb (length bytes) (8 + n) (omega (arith, ltb-true _ _ e))) refl
@@ -77,25 +77,25 @@ mapped_fault (Err e) f fault h = h
 
 xlogdata_fault : (bytes : List ℕ) → FaultIs (xlogdata_at bytes) (at_least 24 bytes)
 xlogdata_fault bytes =
-    subst (FaultIs (xlogdata_at bytes)) (sym (at_least_behind 16 bytes)) (int64_fault bytes _ _ (λ start.
-    subst (FaultIs _) (sym (at_least_behind 8 (drop 8 bytes))) (int64_fault (drop 8 bytes) _ _ (λ end.
-    subst (FaultIs _) (sym (at_least_behind 0 (drop 8 (drop 8 bytes)))) (signed_fault (drop 8 (drop 8 bytes)) _ _ (λ clock. none_due (drop 8 (drop 8 (drop 8 bytes)))))))))
+    subst (FaultIs (xlogdata_at bytes)) (sym (at_least_after 16 bytes)) (int64_fault bytes _ _ (λ start.
+    subst (FaultIs _) (sym (at_least_after 8 (drop 8 bytes))) (int64_fault (drop 8 bytes) _ _ (λ end.
+    subst (FaultIs _) (sym (at_least_after 0 (drop 8 (drop 8 bytes)))) (signed_fault (drop 8 (drop 8 bytes)) _ _ (λ clock. none_due (drop 8 (drop 8 (drop 8 bytes)))))))))
   where
     none_due : (rest : List ℕ) → at_least 0 rest ≡ None
     none_due rest = rw (le-ltb (length rest) 0 (omega arith)) refl
 
 keepalive_fault : (bytes : List ℕ) → FaultIs (keepalive_at bytes) (exactly 17 bytes)
 keepalive_fault bytes =
-    subst (FaultIs (keepalive_at bytes)) (sym (exactly_behind 9 bytes)) (int64_fault bytes _ _ (λ end.
-    subst (FaultIs _) (sym (exactly_behind 1 (drop 8 bytes))) (signed_fault (drop 8 bytes) _ _ (λ clock.
+    subst (FaultIs (keepalive_at bytes)) (sym (exactly_after 9 bytes)) (int64_fault bytes _ _ (λ end.
+    subst (FaultIs _) (sym (exactly_after 1 (drop 8 bytes))) (signed_fault (drop 8 bytes) _ _ (λ clock.
     ask_fault (drop 8 (drop 8 bytes)) (λ ask. record { end = end; clock = clock; ask = ask })))))
 
 status_fault : (bytes : List ℕ) → FaultIs (status_at bytes) (exactly 33 bytes)
 status_fault bytes =
-    subst (FaultIs (status_at bytes)) (sym (exactly_behind 25 bytes)) (int64_fault bytes _ _ (λ written.
-    subst (FaultIs _) (sym (exactly_behind 17 (drop 8 bytes))) (int64_fault (drop 8 bytes) _ _ (λ flushed.
-    subst (FaultIs _) (sym (exactly_behind 9 (drop 8 (drop 8 bytes)))) (int64_fault (drop 8 (drop 8 bytes)) _ _ (λ applied.
-    subst (FaultIs _) (sym (exactly_behind 1 (drop 8 (drop 8 (drop 8 bytes))))) (signed_fault (drop 8 (drop 8 (drop 8 bytes))) _ _ (λ clock.
+    subst (FaultIs (status_at bytes)) (sym (exactly_after 25 bytes)) (int64_fault bytes _ _ (λ written.
+    subst (FaultIs _) (sym (exactly_after 17 (drop 8 bytes))) (int64_fault (drop 8 bytes) _ _ (λ flushed.
+    subst (FaultIs _) (sym (exactly_after 9 (drop 8 (drop 8 bytes)))) (int64_fault (drop 8 (drop 8 bytes)) _ _ (λ applied.
+    subst (FaultIs _) (sym (exactly_after 1 (drop 8 (drop 8 (drop 8 bytes))))) (signed_fault (drop 8 (drop 8 (drop 8 bytes))) _ _ (λ clock.
     ask_fault (drop 8 (drop 8 (drop 8 (drop 8 bytes)))) (λ ask. record { written = written; flushed = flushed; applied = applied; clock = clock; ask = ask })))))))))
 
 pub server_fault_is : (bytes : List ℕ) → FaultIs (server_at bytes) (server_fault bytes)

@@ -71,7 +71,7 @@ fn plain_type(word: &[u8]) -> Option<DataType>
     }
 }
 
-/// The type of a word before a parenthesis, by what stands behind that.
+/// The type of a word before a parenthesis, by what stands after that.
 fn limited_type(word: &[u8], limits: &[u8]) -> Option<DataType>
     ensures { result ≡ limited_type word.now limits.now }
 {

@@ -7,7 +7,7 @@ use Rattle.pgoutput.specs.declared.published.Published.{Published}
 use Rattle.follower.specs.declared.resume_point.ResumePoint.{ResumePoint}
 use Rattle.follower.specs.declared.printing.line.Line.{Line}
 use Rattle.follower.specs.ResumePoint.{with_line, with_lines}
-use Rattle.follower.specs.Lives.{place_behind, place_behind_all}
+use Rattle.follower.specs.Lives.{place_after, place_after_all}
 use Rattle.follower.specs.Found.{IsFirst, IsWithin, TellsTransaction, TellsNote, TellsOne, TellAll, BeginsOne, bytes_in, nothing_kept, Finds}
 
 lines_then : (k : ResumePoint) (xs ys : List Line) → with_lines k (xs ++ ys) ≡ with_lines (with_lines k xs) ys
@@ -83,7 +83,7 @@ by_one true place kept end k lines found tells bound =
     let there = subst (λ (n : ℕ). Finds end n 0 (with_line k tells.line)) (omega (arith, size)) ended in
     subst (λ (l : ResumePoint). Finds end (kept + bytes_in lines) 0 l) (sym (ap (with_lines k) tells.are)) there
 
-by_all : (place kept : ℕ) (k : ResumePoint) (ts : List Published) (lines : List Line) → Finds place kept 0 k → TellAll ts lines → kept + bytes_in lines < 2 ^ 64 → Finds (place_behind_all place ts) (kept + bytes_in lines) 0 (with_lines k lines)
+by_all : (place kept : ℕ) (k : ResumePoint) (ts : List Published) (lines : List Line) → Finds place kept 0 k → TellAll ts lines → kept + bytes_in lines < 2 ^ 64 → Finds (place_after_all place ts) (kept + bytes_in lines) 0 (with_lines k lines)
 by_all place kept k [] lines found tell bound =
     let size : bytes_in lines ≡ 0 = ap bytes_in tell in
     subst (λ (l : ResumePoint). Finds place (kept + bytes_in lines) 0 l) (sym (ap (with_lines k) tell)) (subst (λ (n : ℕ). Finds place n 0 k) (omega (arith, size)) found)
@@ -91,15 +91,15 @@ by_all place kept k (t ∷ ts) lines found tell bound =
     let own = tell.0 in
     let others = tell.1 in
     let size : bytes_in lines ≡ bytes_in own + bytes_in others = ap bytes_in tell.2 ∙ bytes_then own others in
-    let one = by_one t.is_note place kept (place_behind t) k own found tell.3 (omega (arith, size, bound)) in
-    let all = by_all (place_behind t) (kept + bytes_in own) (with_lines k own) ts others one tell.4 (omega (arith, size, bound)) in
-    let there = subst (λ (n : ℕ). Finds (place_behind_all (place_behind t) ts) n 0 (with_lines (with_lines k own) others)) (omega (arith, size)) all in
-    subst (λ (l : ResumePoint). Finds (place_behind_all (place_behind t) ts) (kept + bytes_in lines) 0 l) (sym (ap (with_lines k) tell.2 ∙ lines_then k own others)) there
+    let one = by_one t.is_note place kept (place_after t) k own found tell.3 (omega (arith, size, bound)) in
+    let all = by_all (place_after t) (kept + bytes_in own) (with_lines k own) ts others one tell.4 (omega (arith, size, bound)) in
+    let there = subst (λ (n : ℕ). Finds (place_after_all (place_after t) ts) n 0 (with_lines (with_lines k own) others)) (omega (arith, size)) all in
+    subst (λ (l : ResumePoint). Finds (place_after_all (place_after t) ts) (kept + bytes_in lines) 0 l) (sym (ap (with_lines k) tell.2 ∙ lines_then k own others)) there
 
-pub finds : (ts : List Published) (whole part : List Line) → TellAll ts whole → BeginsOne part → bytes_in (whole ++ part) < 2 ^ 64 → Finds (place_behind_all 0 ts) (bytes_in whole) (bytes_in part) (with_lines nothing_kept (whole ++ part))
+pub finds : (ts : List Published) (whole part : List Line) → TellAll ts whole → BeginsOne part → bytes_in (whole ++ part) < 2 ^ 64 → Finds (place_after_all 0 ts) (bytes_in whole) (bytes_in part) (with_lines nothing_kept (whole ++ part))
 finds ts whole part tell begins bound =
     let size = bytes_then whole part in
     let none : 0 + bytes_in whole ≡ bytes_in whole = omega arith in
-    let all = subst (λ (n : ℕ). Finds (place_behind_all 0 ts) n 0 (with_lines nothing_kept whole)) none (by_all 0 0 nothing_kept ts whole (record { position = refl; length = refl; behind = refl; own = refl }) tell (omega (arith, size, bound))) in
-    let here = by_part (place_behind_all 0 ts) (bytes_in whole) (with_lines nothing_kept whole) part all begins (omega (arith, size, bound)) in
-    subst (λ (l : ResumePoint). Finds (place_behind_all 0 ts) (bytes_in whole) (bytes_in part) l) (sym (lines_then nothing_kept whole part)) here
+    let all = subst (λ (n : ℕ). Finds (place_after_all 0 ts) n 0 (with_lines nothing_kept whole)) none (by_all 0 0 nothing_kept ts whole (record { position = refl; length = refl; behind = refl; own = refl }) tell (omega (arith, size, bound))) in
+    let here = by_part (place_after_all 0 ts) (bytes_in whole) (with_lines nothing_kept whole) part all begins (omega (arith, size, bound)) in
+    subst (λ (l : ResumePoint). Finds (place_after_all 0 ts) (bytes_in whole) (bytes_in part) l) (sym (lines_then nothing_kept whole part)) here

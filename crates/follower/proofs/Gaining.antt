@@ -12,9 +12,9 @@ use Rattle.pgoutput.specs.declared.messages.message.Message.{Message}
 use Rattle.pgoutput.specs.declared.messages.relation.Relation.{Relation}
 use Rattle.pgoutput.specs.declared.logical.Logical.{Logical}
 use Rattle.pgoutput.specs.declared.logical.Logical.TheVariants as logical
-use Rattle.pgoutput.specs.declared.word.Word.{Word}
-use Rattle.pgoutput.specs.declared.word.Word.TheVariants as words
-use Rattle.pgoutput.specs.declared.word.Keepalive.{Keepalive}
+use Rattle.pgoutput.specs.declared.copy_both_message.CopyBothMessage.{CopyBothMessage}
+use Rattle.pgoutput.specs.declared.copy_both_message.CopyBothMessage.TheVariants as words
+use Rattle.pgoutput.specs.declared.copy_both_message.Keepalive.{Keepalive}
 use Rattle.pgoutput.specs.declared.published.Published.{Published}
 use Rattle.client.specs.declared.fault.ClientFault.{ClientFault}
 use Rattle.client.specs.declared.fault.ClientFault.TheVariants as faults
@@ -127,7 +127,7 @@ gains_message s t position end (logical.Delete m) is = gains_change s.half s t p
 gains_message s t position end (logical.Truncate m) is = gains_change s.half s t position (logical.Truncate m) is
 gains_message s t position end (logical.Message m) is = gains_heard m.is_transactional s t position end m is
 
-gains_word : (s t : Subscriber) (w : Word) → after_word s w ≡ Ok t → Gains s t
+gains_word : (s t : Subscriber) (w : CopyBothMessage) → after_word s w ≡ Ok t → Gains s t
 gains_word s t (words.Keepalive k) is = subst (λ (v : Subscriber). Gains s v) (ok_is ClientFault (after_keepalive s.half s k) t is) (gains_keepalive s.half s k)
 gains_word s t (words.XLogData x) is = gains_message s t x.start x.end x.message is
 
@@ -137,7 +137,7 @@ went : {A B : Type 0} (r : Result A ClientFault) (f : A → Result B ClientFault
 went (Ok x) f y is = (x, refl, is)
 went (Err e) f y is = absurd cc
 
-gains_words : (s t : Subscriber) (ws : List Word) → after_words s ws ≡ Ok t → Gains s t
+gains_words : (s t : Subscriber) (ws : List CopyBothMessage) → after_words s ws ≡ Ok t → Gains s t
 gains_words s t [] is = gains_same s s t is refl (omega arith)
 gains_words s t (w ∷ ws) is =
     let first = went (after_word s w) (λ u. after_words u ws) t is in

@@ -8,9 +8,9 @@ use Rattle.pgoutput.specs.declared.messages.message.Message.{Message}
 use Rattle.pgoutput.specs.declared.messages.relation.Relation.{Relation}
 use Rattle.pgoutput.specs.declared.logical.Logical.{Logical}
 use Rattle.pgoutput.specs.declared.logical.Logical.TheVariants as logical
-use Rattle.pgoutput.specs.declared.word.Word.{Word}
-use Rattle.pgoutput.specs.declared.word.Word.TheVariants as words
-use Rattle.pgoutput.specs.declared.word.Keepalive.{Keepalive}
+use Rattle.pgoutput.specs.declared.copy_both_message.CopyBothMessage.{CopyBothMessage}
+use Rattle.pgoutput.specs.declared.copy_both_message.CopyBothMessage.TheVariants as words
+use Rattle.pgoutput.specs.declared.copy_both_message.Keepalive.{Keepalive}
 use Rattle.pgoutput.specs.declared.published.Published.{Published}
 use Rattle.client.specs.declared.fault.ClientFault.{ClientFault}
 use Rattle.client.specs.declared.fault.ClientFault.TheVariants as faults
@@ -83,19 +83,19 @@ message_before printed s position end (logical.Delete m) = change_before printed
 message_before printed s position end (logical.Truncate m) = change_before printed s.half s position (logical.Truncate m)
 message_before printed s position end (logical.Message m) = heard_before printed m.is_transactional s position end m
 
-word_before : (printed : List Published) (s : Subscriber) (w : Word) → after_word (before printed s) w ≡ after printed (after_word s w)
+word_before : (printed : List Published) (s : Subscriber) (w : CopyBothMessage) → after_word (before printed s) w ≡ after printed (after_word s w)
 word_before printed s (words.Keepalive k) = ap (λ (t : Subscriber). Ok t) (keepalive_before printed s.half s k)
 word_before printed s (words.XLogData x) = message_before printed s x.start x.end x.message
 
 -- ---- By words.
 
-rest_before : (printed : List Published) (r : Result Subscriber ClientFault) (ws : List Word)
+rest_before : (printed : List Published) (r : Result Subscriber ClientFault) (ws : List CopyBothMessage)
     → ((t : Subscriber) → after_words (before printed t) ws ≡ after printed (after_words t ws))
     → (after printed r >>= λ t. after_words t ws) ≡ after printed (r >>= λ t. after_words t ws)
 rest_before printed (Ok t) ws same = same t
 rest_before printed (Err e) ws same = refl
 
-words_before : (printed : List Published) (s : Subscriber) (ws : List Word) → after_words (before printed s) ws ≡ after printed (after_words s ws)
+words_before : (printed : List Published) (s : Subscriber) (ws : List CopyBothMessage) → after_words (before printed s) ws ≡ after printed (after_words s ws)
 words_before printed s [] = refl
 words_before printed s (w ∷ ws) =
     ap (λ (r : Result Subscriber ClientFault). r >>= λ t. after_words t ws) (word_before printed s w) ∙ rest_before printed (after_word s w) ws (λ t. words_before printed t ws)

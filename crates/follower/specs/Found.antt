@@ -4,7 +4,7 @@ use Rattle.std.specs.List.{AllByRecursion}
 use Rattle.pgoutput.specs.declared.published.Published.{Published}
 use Rattle.follower.specs.declared.resume_point.ResumePoint.{ResumePoint}
 use Rattle.follower.specs.declared.printing.line.Line.{Line}
-use Rattle.follower.specs.Lives.{place_behind}
+use Rattle.follower.specs.Lives.{place_after}
 
 -- the first line of one, or what is there of it
 abbrev pub IsFirst : Line → Type 0
@@ -39,7 +39,7 @@ TellsOne false place lines = TellsTransaction place lines
 -- the lines of these, one after the other
 abbrev pub TellAll : List Published → List Line → Type 0
 TellAll [] lines = lines ≡ []
-TellAll (t ∷ ts) lines = (own : List Line) × (others : List Line) × (lines ≡ own ++ others) × TellsOne t.is_note (place_behind t) own × TellAll ts others
+TellAll (t ∷ ts) lines = (own : List Line) × (others : List Line) × (lines ≡ own ++ others) × TellsOne t.is_note (place_after t) own × TellAll ts others
 
 -- what is there of one more
 abbrev pub BeginsOne : List Line → Type 0

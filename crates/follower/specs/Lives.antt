@@ -6,18 +6,18 @@ use Rattle.follower.specs.Standing.{Standing, Deed, Runs}
 use Rattle.follower.specs.Promise.{begun_at, printed_in}
 
 -- where a run goes on, as its last line tells: at a transaction's end, or a byte past a note's start
-abbrev pub place_behind : Published → ℕ
-place_behind t = if t.is_note then t.start + 1 else t.end
+abbrev pub place_after : Published → ℕ
+place_after t = if t.is_note then t.start + 1 else t.end
 
 -- where one goes on after all of them
-abbrev pub place_behind_all : ℕ → List Published → ℕ
-place_behind_all start [] = start
-place_behind_all start (t ∷ ts) = place_behind_all (place_behind t) ts
+abbrev pub place_after_all : ℕ → List Published → ℕ
+place_after_all start [] = start
+place_after_all start (t ∷ ts) = place_after_all (place_after t) ts
 
 -- From a position on, each starts where a run would go on after the one before it, or later. So none stands there twice.
 abbrev pub EachBehind : ℕ → List Published → Type 0
 EachBehind from [] = Unit {0}
-EachBehind from (t ∷ ts) = (from ≤ t.start) × (t.start < place_behind t) × EachBehind (place_behind t) ts
+EachBehind from (t ∷ ts) = (from ≤ t.start) × (t.start < place_after t) × EachBehind (place_after t) ts
 
 -- a note's record ends past its start
 abbrev pub IsForwardNote : Published → Type 0
@@ -40,7 +40,7 @@ beginning life = begun_at life.from life.written life.kept life.sent
 
 -- It began after all that the output held. Its server is asked for one thing: that the records of notes end past their starts.
 pub record Lived (start : ℕ) (printed : List Published) (life : Life) : Type 0 where
-  pub behind : place_behind_all start printed ≤ life.from
+  pub behind : place_after_all start printed ≤ life.from
   pub run : Runs (beginning life) life.deeds life.now
   pub waited : life.now.applier.subscriber.applied ≡ life.whole ++ life.rest
   pub forward : AllByRecursion IsForwardNote (printed_in (beginning life) life.deeds life.now run ++ life.whole)

@@ -5,7 +5,6 @@ pub(crate) mod asked_rows;
 pub(crate) mod copied_row;
 pub(crate) mod copied_table;
 pub(crate) mod made_frames;
-pub(crate) mod names;
 pub(crate) mod printed_copy;
 pub(crate) mod questions;
 pub(crate) mod row_lines;

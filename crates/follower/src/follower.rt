@@ -114,8 +114,8 @@ impl<S: Peer> Follower<S> {
     }
 
     /// Waits for the next transaction, or message outside of all transactions. None: the server has ended the stream, and all of it
-    /// was handed out. K6 where the connection is lost, or silent for twice as long as a read of the socket may wait; K1 to K3, K5 and K8
-    /// are those of an applier.
+    /// was handed out. `Connection` or `Ended` (K6) where the connection is lost, `Silent` (K6) where nothing came for twice as long as a
+    /// read of the socket may wait; `Client` is a fault of an applier (K1 to K3, K5, K8).
     pub fn next<R: Wait + Clock>(
         &mut self,
         rt: &R,

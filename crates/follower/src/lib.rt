@@ -23,6 +23,7 @@ mod library;
 mod login;
 mod options;
 mod printing;
+mod quoting;
 mod receiving;
 mod resume_point;
 mod resuming;
@@ -44,7 +45,7 @@ pub use pgoutput::{Cell, Column, Identity, Message, Relation};
 pub use printing::form::Form;
 pub use printing::output::Output;
 pub use receiving::promise::{
-    a_run_goes_on_behind_the_last_whole_one, each_transaction_is_printed_once,
+    a_run_goes_on_after_the_last_whole_one, each_transaction_is_printed_once,
     each_transaction_stands_once_over_kills, no_acknowledgement_is_ahead, no_transaction_is_lost,
 };
 pub use resume_point::ResumePoint;

@@ -12,8 +12,8 @@ use Rattle.frames.specs.declared.backend.authentication_ok.TheConstants.{AUTHENT
 use Rattle.frames.specs.declared.backend.parameter_status.TheConstants.{PARAMETER_STATUS}
 use Rattle.frames.specs.declared.backend.backend_key_data.TheConstants.{BACKEND_KEY_DATA}
 use Rattle.frames.specs.declared.backend.ready_for_query.TheConstants.{READY_FOR_QUERY}
-use Rattle.frames.specs.declared.backend.ready_for_query.Status.{Status}
-use Rattle.frames.specs.declared.backend.ready_for_query.Status.TheVariants.{Idle, InTransaction, Failed}
+use Rattle.frames.specs.declared.backend.ready_for_query.TransactionStatus.{TransactionStatus}
+use Rattle.frames.specs.declared.backend.ready_for_query.TransactionStatus.TheVariants.{Idle, InTransaction, Failed}
 use Rattle.frames.specs.declared.backend.command_complete.TheConstants.{COMMAND_COMPLETE}
 use Rattle.frames.specs.declared.backend.row_description.TheConstants.{ROW_DESCRIPTION}
 use Rattle.frames.specs.declared.backend.row_description.ColumnDescription.{ColumnDescription}
@@ -92,12 +92,12 @@ front_bodies = record { cases = front_cases; again = front_again }
 authentication_codec : Codec authentication_at int32 (λ n. (n < 2 ^ 32) × (eqb n 0 ≡ true))
 authentication_codec = tested (number32 tt) (λ n. eqb n 0) tt
 
-status_there : (b : ℕ) (s : Status) → status_of b ≡ Some s → status_letter s ≡ b
+status_there : (b : ℕ) (s : TransactionStatus) → status_of b ≡ Some s → status_letter s ≡ b
 status_there b Idle e = grind (arith, nat_tests)
 status_there b InTransaction e = grind (arith, nat_tests)
 status_there b Failed e = grind (arith, nat_tests)
 
-status_again : (s : Status) → status_of (status_letter s) ≡ Some s
+status_again : (s : TransactionStatus) → status_of (status_letter s) ≡ Some s
 status_again Idle = refl
 status_again InTransaction = refl
 status_again Failed = refl

@@ -2,8 +2,8 @@
 use Rattle.std.specs.Prelude.{ℕ, ◌^◌, ◌==◌, List, [], ◌∷◌, ◌++◌, length, Option, Some, None, Result, Ok, Err, if◌then◌else◌}
 use Rattle.std.specs.List.{flat_map}
 use Rattle.std.specs.Int.{w16, w32}
-use Rattle.frames.specs.declared.backend.ready_for_query.Status.{Status}
-use Rattle.frames.specs.declared.backend.ready_for_query.Status.TheVariants.{Idle, InTransaction, Failed}
+use Rattle.frames.specs.declared.backend.ready_for_query.TransactionStatus.{TransactionStatus}
+use Rattle.frames.specs.declared.backend.ready_for_query.TransactionStatus.TheVariants.{Idle, InTransaction, Failed}
 use Rattle.frames.specs.declared.backend.copy_both_response.CopyBothResponse.{CopyBothResponse}
 use Rattle.pqformat.specs.Fields.{int16, int32, byte_at, number_at}
 use Rattle.pqformat.specs.Steps.{◌>>=◌, letter_at, count_at, repeat_at}
@@ -24,15 +24,15 @@ backend_key_at bytes = do
   Ok ((process.0, key.0), key.1)
 
 -- whether a transaction block is open: I, T and E
-abbrev pub status_letter : Status → ℕ
+abbrev pub status_letter : TransactionStatus → ℕ
 status_letter Idle = 73
 status_letter InTransaction = 84
 status_letter Failed = 69
 
-abbrev pub status_of : ℕ → Option Status
+abbrev pub status_of : ℕ → Option TransactionStatus
 status_of b = if b == 73 then Some Idle else if b == 84 then Some InTransaction else if b == 69 then Some Failed else None
 
-abbrev pub status_at : List ℕ → Result (Status × List ℕ) (Unit {0})
+abbrev pub status_at : List ℕ → Result (TransactionStatus × List ℕ) (Unit {0})
 status_at bytes = letter_at tt tt status_of bytes
 
 -- a count whose top bit isn't set, and as many items

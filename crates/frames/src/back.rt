@@ -16,7 +16,7 @@ use crate::backend::error_response::{ERROR_RESPONSE, ErrorResponse};
 use crate::backend::parameter_status::{
     PARAMETER_STATUS, parameter_len, parameter_status_of, put_parameter,
 };
-use crate::backend::ready_for_query::{READY_FOR_QUERY, Status, ready_of};
+use crate::backend::ready_for_query::{READY_FOR_QUERY, TransactionStatus, ready_of};
 use crate::backend::row_description::{ROW_DESCRIPTION, RowDescription};
 use crate::copy_data::{COPY_DATA, CopyData, copy_data_len, copy_data_of, put_copy_data};
 use crate::copy_done::COPY_DONE;
@@ -38,7 +38,7 @@ pub enum Back {
     AuthenticationOk,
     ParameterStatus(Parameter),
     BackendKeyData(BackendKeyData),
-    ReadyForQuery(Status),
+    ReadyForQuery(TransactionStatus),
     CommandComplete(CommandComplete),
     RowDescription(RowDescription),
     DataRow(DataRow),

@@ -26,7 +26,7 @@ pub use backend::copy_both_response::{COPY_BOTH_RESPONSE, CopyBothResponse};
 pub use backend::data_row::{DATA_ROW, DataRow, DataValue};
 pub use backend::error_response::{ERROR_RESPONSE, ErrorField, ErrorResponse};
 pub use backend::parameter_status::PARAMETER_STATUS;
-pub use backend::ready_for_query::{READY_FOR_QUERY, Status};
+pub use backend::ready_for_query::{READY_FOR_QUERY, TransactionStatus};
 pub use backend::row_description::{
     ColumnDescription, ColumnType, ROW_DESCRIPTION, RowDescription,
 };

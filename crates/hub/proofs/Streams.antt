@@ -124,5 +124,5 @@ gave_on a b before after given same gives appended = (
 -- ---- the end of a stream
 
 -- nothing is said
-pub nothing_behind : {L : Type 0} (a : Walsender L) (before : Option (List ℕ)) → WordsBehind [] a a before before
-nothing_behind a before = ([], λ (log : List Record) (written : List ℕ) serving. nothing_given log a.reader.place written a.sender serving, inl refl, Appends-nil before)
+pub nothing_after : {L : Type 0} (a : Walsender L) (before : Option (List ℕ)) → WordsBehind [] a a before before
+nothing_after a before = ([], λ (log : List Record) (written : List ℕ) serving. nothing_given log a.reader.place written a.sender serving, inl refl, Appends-nil before)

@@ -3,12 +3,12 @@ use Rattle.std.proofs.Common.{◌≡◌, ◌⊎◌, ℕ, ℤ, true, false, List,
 use Rattle.std.proofs.Math.Logic.{∥∥₁_map}
 use Rattle.std.specs.Result.{IsErr, is_err}
 use Rattle.std.specs.declared.option.Option.{Option}
-use Rattle.slots.specs.declared.words_kept.step.View.{View}
+use Rattle.slots.specs.declared.words_kept.step.SeatView.{SeatView}
 use Rattle.walsender.specs.Sending.{SenderState}
 use Rattle.std.specs.Io.KnownBytes.{Appends}
 use Rattle.wal.specs.declared.record.Record.{Record}
 use mathlib.Core.List.{IsPrefix}
-use Rattle.shared_log.specs.Fronts.{settled_records}
+use Rattle.shared_log.specs.SeenPrefixes.{settled_records}
 use Rattle.shared_log.specs.Readers.{seen_of}
 use Rattle.shared_log.specs.declared.following.reader.LogReader.{LogReader}
 use Rattle.wal.specs.Log.{end_of}
@@ -87,18 +87,18 @@ told_under clock due old informed new before after is writes =
     }
 
 -- the turn of a stream that was told of a commit before it
-pub told_turn : {L : Type 0} (place here : ℕ) (work : Work) (old informed new : Walsender L) (seat seat_then seat_after : View) (before after : Option (List ℕ)) → HasLearnt old informed → seat_then ≡ seat → here ≡ place
+pub told_turn : {L : Type 0} (place here : ℕ) (work : Work) (old informed new : Walsender L) (seat seat_then seat_after : SeatView) (before after : Option (List ℕ)) → HasLearnt old informed → seat_then ≡ seat → here ≡ place
     → Confirms work.flushed informed.sender.position here seat_then seat_after → StreamsOn informed new before after → Turn place work (standing old seat before) (standing new seat_after after)
 told_turn place here work old informed new seat seat_then seat_after before after is same at confirmed goes =
     let Read : ℕ → Type 0 = λ read. Confirms work.flushed read place seat seat_after in
-    let From : View → Type 0 = λ v. Confirms work.flushed informed.sender.position place v seat_after in
+    let From : SeatView → Type 0 = λ v. Confirms work.flushed informed.sender.position place v seat_after in
     let At : ℕ → Type 0 = λ p. Confirms work.flushed informed.sender.position p seat_then seat_after in (
       subst Read (ap (λ (s : SenderState). s.position) is.sender) (subst From same (subst At at confirmed)),
       one_more old informed new before before after (learnt old informed before is) goes,
     )
 
 -- what it answered, likewise
-pub told_answers : {L : Type 0} (work : Work) (old informed new : Walsender L) (seat seat_then seat_after : View) (before after : Option (List ℕ)) → HasLearnt old informed
+pub told_answers : {L : Type 0} (work : Work) (old informed new : Walsender L) (seat seat_then seat_after : SeatView) (before after : Option (List ℕ)) → HasLearnt old informed
     → (work.phase ≡ phases.Closed) ⊎ WritesWhole work informed new before after → Answers work (standing old seat before) (standing new seat_after after)
 told_answers work old informed new seat seat_then seat_after before after is (inl over) = inl over
 told_answers work old informed new seat seat_then seat_after before after is (inr (first, writes, reads)) =
@@ -156,17 +156,17 @@ writes_stream told place last first backend old after end new (works, turns) =
 -- ---- the end of a stream
 
 -- its client asked for it
-pub left_at_end : {D L : Type 0} (told : D → Work → D → Type 0) (place : ℕ) (first : Work) (r : Result (Unit {0}) ConnectionEnd) (backend after : D) (old : Standing L) (position : ℕ) (seat : View) (written : Option (List ℕ)) → ∥ Serves (seen_of old.walsender.reader) [] old.walsender ∥₁ → is_err r ≡ false
+pub left_at_end : {D L : Type 0} (told : D → Work → D → Type 0) (place : ℕ) (first : Work) (r : Result (Unit {0}) ConnectionEnd) (backend after : D) (old : Standing L) (position : ℕ) (seat : SeatView) (written : Option (List ℕ)) → ∥ Serves (seen_of old.walsender.reader) [] old.walsender ∥₁ → is_err r ≡ false
     → EndsTurns told place first r backend old after position seat written → LeavesSlot told place first r backend old after seat written
 left_at_end told place first (Ok done) backend after old position seat written new ok (end, last, turns, read, same, by) = (end, last, turns, writes_stream told place (Ended last) first backend old after end new turns, same, by)
 left_at_end told place first (Err over) backend after old position seat written new ok ends = absurd cc
 
 -- the connection is over
-pub left_at_close : {D L : Type 0} (told : D → Work → D → Type 0) (place here : ℕ) (first work : Work) (r : Result (Unit {0}) ConnectionEnd) (backend closed after : D) (old : Standing L) (position : ℕ) (seat seat_after : View) (written : Option (List ℕ)) → ∥ Serves (seen_of old.walsender.reader) [] old.walsender ∥₁ → is_err r ≡ true → here ≡ place
+pub left_at_close : {D L : Type 0} (told : D → Work → D → Type 0) (place here : ℕ) (first work : Work) (r : Result (Unit {0}) ConnectionEnd) (backend closed after : D) (old : Standing L) (position : ℕ) (seat seat_after : SeatView) (written : Option (List ℕ)) → ∥ Serves (seen_of old.walsender.reader) [] old.walsender ∥₁ → is_err r ≡ true → here ≡ place
     → EndsTurns told place first r backend old closed position seat written → told closed work after → Confirms work.flushed position here seat seat_after → LeavesSlot told place first r backend old after seat_after written
 left_at_close told place here first work (Ok done) backend closed after old position seat seat_after written new err at ends gives confirmed = absurd cc
 left_at_close told place here first work (Err over) backend closed after old position seat seat_after written new err at (end, last, turns, read, same, by) gives confirmed =
     let At : ℕ → Type 0 = λ p. Confirms work.flushed position p seat seat_after in
     let Read : ℕ → Type 0 = λ n. Confirms work.flushed n place seat seat_after in
-    let From : View → Type 0 = λ v. Confirms work.flushed end.walsender.sender.position place v seat_after in
+    let From : SeatView → Type 0 = λ v. Confirms work.flushed end.walsender.sender.position place v seat_after in
     (end, last, closed, work, turns, writes_stream told place (Ended last) first backend old closed end new turns, gives, subst From same (subst Read read (subst At at confirmed)), by)

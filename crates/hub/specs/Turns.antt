@@ -1,13 +1,13 @@
 -- What a stream does of the work that its connection brings, turn by turn, and what that leaves of its slot.
-use Rattle.std.specs.Prelude.{◌≡◌, ◌⊎◌, ℕ, ℤ, false, List, [], ◌∷◌, ◌++◌, Option, Some, None, Result, Ok, Err, max, min}
+use Rattle.std.specs.Prelude.{◌≡◌, ◌⊎◌, ℕ, ℤ, false, List, [], ◌∷◌, ◌++◌, Option, Some, None, Result, Ok, Err, max, min, take}
 use mathlib.Core.List.{IsPrefix}
 use Rattle.std.specs.Io.KnownBytes.{Appends}
-use Rattle.shared_log.specs.Fronts.{settled_records}
+use Rattle.shared_log.specs.SeenPrefixes.{settled_records}
 use Rattle.shared_log.specs.Readers.{seen_of}
 use Rattle.wal.specs.Log.{end_of}
 use Rattle.slots.specs.Seats.{DidAt}
 use Rattle.slots.specs.declared.words_kept.step.SlotKind.TheVariants.{Raise}
-use Rattle.slots.specs.declared.words_kept.step.View.{View}
+use Rattle.slots.specs.declared.words_kept.step.SeatView.{SeatView}
 use Rattle.server.specs.declared.connection.Phase.TheVariants as phases
 use Rattle.walsender.specs.declared.walsender.Walsender.{Walsender}
 use Rattle.pgoutput.specs.Words.{word_bytes}
@@ -26,17 +26,17 @@ use Rattle.connections.specs.declared.inbox.Work.{Work}
 use Rattle.hub.specs.Streams.{StreamsOn, asking, keepalives}
 
 -- What a status brings is confirmed as far as was read: the slot is raised to it, unless it stands further.
-abbrev pub Confirms : Option ℕ → ℕ → ℕ → View → View → Type 0
+abbrev pub Confirms : Option ℕ → ℕ → ℕ → SeatView → SeatView → Type 0
 Confirms None read place old new = new ≡ old
 Confirms (Some flushed) read place old new = (found : ℕ) × DidAt Raise place found (max found (min flushed read)) old new
 
 -- a stream between two turns: its walsender, the seat that holds its slot, and what its writer took
 pub record Standing (L : Type 0) : Type 0 where
   pub walsender : Walsender L
-  pub seat : View
+  pub seat : SeatView
   pub written : Option (List ℕ)
 
-abbrev pub standing : {L : Type 0} → Walsender L → View → Option (List ℕ) → Standing L
+abbrev pub standing : {L : Type 0} → Walsender L → SeatView → Option (List ℕ) → Standing L
 standing walsender seat written = record { walsender = walsender; seat = seat; written = written }
 
 -- One turn: what came is confirmed, and the stream goes on.
@@ -107,15 +107,19 @@ stream_error_of ends.NoEntry = Some stream_errors.NoEntry
 stream_error_of ends.Removed = Some stream_errors.Removed
 stream_error_of end = None
 
+-- They came, or a beginning of them did.
+abbrev pub CameInPart : List ℕ → Option (List ℕ) → Option (List ℕ) → Type 0
+CameInPart words before after = (count : ℕ) × Appends before after (take count words)
+
 -- How a stream ended whose last turn ended so: by that turn's fault; in order, where its client asked for that, with the last work's words after
--- all that was written; or since its client is gone.
+-- all that was written; or since its client is gone, with what came of them.
 abbrev pub EndsBy : Result Work TurnFault → Result (Unit {0}) ConnectionEnd → Option (List ℕ) → Option (List ℕ) → Type 0
 EndsBy (Err fault) ended before after = ended ≡ Err (end_of_fault fault)
 EndsBy (Ok last) (Ok done) before after = (last.phase ≡ phases.Stopping) × Appends before after last.said.items
-EndsBy (Ok last) (Err end) before after = end ≡ ends.Client
+EndsBy (Ok last) (Err end) before after = (end ≡ ends.Client) × CameInPart last.said.items before after
 
 -- they were taken, up to this position and this seat, however the last one ended, and by that the stream ended
-abbrev pub EndsTurns : {D L : Type 0} → (D → Work → D → Type 0) → ℕ → Work → Result (Unit {0}) ConnectionEnd → D → Standing L → D → ℕ → View → Option (List ℕ) → Type 0
+abbrev pub EndsTurns : {D L : Type 0} → (D → Work → D → Type 0) → ℕ → Work → Result (Unit {0}) ConnectionEnd → D → Standing L → D → ℕ → SeatView → Option (List ℕ) → Type 0
 EndsTurns {D} {L} told place first ended backend old after position seat written =
     (end : Standing L) × (last : Result Work TurnFault) × TakesTurns told place (Ended last) first backend old after end × (position ≡ end.walsender.sender.position) × (seat ≡ end.seat) × EndsBy last ended end.written written
 
@@ -124,7 +128,7 @@ abbrev pub WritesStream : {L : Type 0} → Standing L → Standing L → Type 0
 WritesStream old end = (given : List ℕ) × Serves (seen_of end.walsender.reader) given end.walsender × Appends old.written end.written given
 
 -- What a stream leaves of its slot, what was written of it, and by what it ended: all that came was confirmed in its turn. Where the connection is over, so was the last work, after which nothing comes.
-abbrev pub LeavesSlot : {D L : Type 0} → (D → Work → D → Type 0) → ℕ → Work → Result (Unit {0}) ConnectionEnd → D → Standing L → D → View → Option (List ℕ) → Type 0
+abbrev pub LeavesSlot : {D L : Type 0} → (D → Work → D → Type 0) → ℕ → Work → Result (Unit {0}) ConnectionEnd → D → Standing L → D → SeatView → Option (List ℕ) → Type 0
 LeavesSlot {D} {L} told place first (Ok done) backend old after seat written =
     (end : Standing L) × (last : Result Work TurnFault) × TakesTurns told place (Ended last) first backend old after end × ∥ WritesStream old end ∥₁ × (seat ≡ end.seat) × EndsBy last (Ok done) end.written written
 LeavesSlot {D} {L} told place first (Err over) backend old after seat written =

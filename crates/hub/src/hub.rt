@@ -163,8 +163,9 @@ impl<L: LogName + SlotName> Hub<L> {
     // ---- how the server ends
 
     /// Ends the server: no connection is served but those that are, and nobody waits at the listener. Each stream sends what is
-    /// held and what the log has, and CopyDone; then its connection is closed, and each other one at once. Ten seconds later the
-    /// connections that aren't over are cut off.
+    /// held and what the log has, and CopyDone; once its client has closed its side, or said CopyDone too, what it has flushed is
+    /// confirmed, and its connection is closed. Each other connection is closed at once. Ten seconds later those that aren't
+    /// over are cut off.
     pub fn stop<R: Wait + Clock>(&self, rt: &R, listener: &ListenerHandle) {
         self.server_state.shut_down(rt);
         listener.shut();

@@ -20,7 +20,7 @@ mod serving;
 mod stream;
 
 pub use connections::{
-    AcceptError, ConnectionEnd, NoopObserver, RefusedCommand, ServerObserver, Unserved,
+    AcceptError, ConnectionEnd, ConnectionRefusal, NoopObserver, RefusedCommand, ServerObserver,
 };
 pub use hub::Hub;
 pub use listener_handle::ListenerHandle;

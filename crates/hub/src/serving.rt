@@ -5,8 +5,8 @@ use crate::connection::write_loop::{WriteLoop, write_line};
 use crate::hub::Hub;
 use crate::stream::granting::end_stream;
 use crate::stream::new_stream::NewStream;
-use connections::{Arrival, ConnectionEnd, ConnectionMailbox, ServerObserver, Unserved};
-use server_state::{Place, ServeFault, ServerState};
+use connections::{Arrival, ConnectionEnd, ConnectionMailbox, ConnectionRefusal, ServerObserver};
+use server_state::{Admission, ServeFault, ServerState};
 use shared_log::LogName;
 use slots::SlotName;
 use std::net::{Shutdown, TcpListener, TcpStream};
@@ -88,19 +88,19 @@ impl Taken {
     }
 
     /// The number of the next one: each kind is counted from 1.
-    fn next(&self, place: Place) -> u32 {
+    fn next(&self, place: Admission) -> u32 {
         match place {
-            Place::Served => self.served.wrapping_add(1),
-            Place::Crowd => self.turned_away.wrapping_add(1),
+            Admission::Served => self.served.wrapping_add(1),
+            Admission::Crowd => self.turned_away.wrapping_add(1),
         }
     }
 
     /// The next one was taken.
-    fn count(&mut self, place: Place) {
+    fn count(&mut self, place: Admission) {
         let number = self.next(place);
         match place {
-            Place::Served => self.served = number,
-            Place::Crowd => self.turned_away = number,
+            Admission::Served => self.served = number,
+            Admission::Crowd => self.turned_away = number,
         }
     }
 }
@@ -110,7 +110,7 @@ fn connect<L, G, R>(
     rt: &R,
     server_state: &ServerState<L>,
     observer: &G,
-    place: Place,
+    place: Admission,
     number: u32,
     arrival: &Arrival,
 )
@@ -120,8 +120,8 @@ where
     R: Threads + Wait + Clock + RandomSource + Sync,
 {
     match place {
-        Place::Served => serve_one(rt, server_state, observer, number, arrival),
-        Place::Crowd => server_state.turn_away(rt, observer, number, arrival),
+        Admission::Served => serve_one(rt, server_state, observer, number, arrival),
+        Admission::Crowd => server_state.turn_away(rt, observer, number, arrival),
     }
 }
 
@@ -152,7 +152,7 @@ fn serve_to_end<L, G, R>(
     number: u32,
     arrival: &Arrival,
     socket: &TcpStream,
-) -> Result<(), Unserved>
+) -> Result<(), ConnectionRefusal>
 where
     L: LogName + SlotName + Send + Sync,
     G: ServerObserver + Sync,
@@ -172,7 +172,7 @@ where
     server_state.sockets.leave(rt, number);
     let early = end_mailbox(rt, server_state, mailbox);
     let Some(end) = read else {
-        return Err(Unserved::Thread);
+        return Err(ConnectionRefusal::Thread);
     };
     server_state.dismiss();
     observer.ended(number, why(early, end));

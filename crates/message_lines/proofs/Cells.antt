@@ -7,10 +7,10 @@ use Rattle.pgoutput.specs.declared.parts.tuple.Cell.TheVariants as cells
 use Rattle.json.specs.Json.{null, Items, item}
 use Rattle.json.specs.Token.{Token, end_array}
 use Rattle.json.specs.Tree.{items_tokens, json_tokens}
-use Rattle.message_lines.specs.declared.parts.part.Part.{Part}
+use Rattle.message_lines.specs.declared.parts.told_values.ToldValues.{ToldValues}
 use Rattle.message_lines.specs.Rows.{column_json, is_told, with_cell, cells_items, cell_tokens}
 
-first : (part : Part) (c : Column) (cell : Cell) (more : Items) → items_tokens (with_cell part c cell more) ≡ cell_tokens part c cell ++ items_tokens more
+first : (part : ToldValues) (c : Column) (cell : Cell) (more : Items) → items_tokens (with_cell part c cell more) ≡ cell_tokens part c cell ++ items_tokens more
 first part c cells.Unchanged more = refl
 first part c cells.Null more = by_told (is_told part c)
   where
@@ -20,7 +20,7 @@ first part c cells.Null more = by_told (is_told part c)
 first part c (cells.Text text) more = refl
 
 -- a value is written, and all that is left stands after it
-pub cell_put : (part : Part) (columns more : List Column) (row rest : List Cell) (c : Column) (cell : Cell) (old new whole : List Token)
+pub cell_put : (part : ToldValues) (columns more : List Column) (row rest : List Cell) (c : Column) (cell : Cell) (old new whole : List Token)
     → columns ≡ c ∷ more → row ≡ cell ∷ rest → new ≡ old ++ cell_tokens part c cell
     → old ++ items_tokens (cells_items part columns row) ≡ whole → new ++ items_tokens (cells_items part more rest) ≡ whole
 unfolding cells_items
@@ -30,7 +30,7 @@ cell_put part columns more row rest c cell old new whole front_columns front_row
     ap (λ (l : List Token). l ++ later) put ∙ append_assoc old (cell_tokens part c cell) later ∙ ap (λ (l : List Token). old ++ l) (sym here) ∙ had
 
 -- none is left
-pub all_put : (part : Part) (columns : List Column) (row : List Cell) (old whole : List Token) → length columns ≡ 0 → length row ≡ 0
+pub all_put : (part : ToldValues) (columns : List Column) (row : List Cell) (old whole : List Token) → length columns ≡ 0 → length row ≡ 0
     → old ++ items_tokens (cells_items part columns row) ≡ whole → old ++ end_array ∷ [] ≡ whole
 unfolding cells_items
 all_put part [] [] old whole no_columns no_row had = had

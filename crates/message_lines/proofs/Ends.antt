@@ -16,7 +16,7 @@ use Rattle.replcmd.specs.Position.{position_text}
 use Rattle.replcmd.specs.Reading.{position_of}
 use Rattle.replcmd.proofs.Halves.{printed_is_read}
 use Rattle.replcmd.proofs.Places.{position_again}
-use Rattle.message_lines.specs.declared.parts.part.Part.TheVariants.{Whole}
+use Rattle.message_lines.specs.declared.parts.told_values.ToldValues.TheVariants.{Whole}
 use Rattle.message_lines.specs.Line.{text_of}
 use Rattle.message_lines.specs.Rows.{AreKinds, row_json}
 use Rattle.message_lines.specs.Changes.{change_members, delete_json, insert_json, old_members, truncate_json, update_json}

@@ -19,8 +19,8 @@ use Rattle.json.specs.Json.{Json, null, number, Items, item, document}
 use Rattle.json.specs.Tree.{depth, items_depth, members_depth, HasNumbers, ItemsHaveNumbers, MembersHaveNumbers}
 use Rattle.json.proofs.Printed.Decimals.{IsNumber-decimal, IsNumber-signed_decimal}
 use Rattle.json.proofs.Printed.Trees.{document-print}
-use Rattle.message_lines.specs.declared.parts.part.Part.{Part}
-use Rattle.message_lines.specs.declared.parts.part.Part.TheVariants.{Whole, Key}
+use Rattle.message_lines.specs.declared.parts.told_values.ToldValues.{ToldValues}
+use Rattle.message_lines.specs.declared.parts.told_values.ToldValues.TheVariants.{Whole, Key}
 use Rattle.message_lines.specs.Line.{text_of}
 use Rattle.message_lines.specs.Kinds.{is_number, kind_name, kind_json}
 use Rattle.message_lines.specs.Values.{is_no_number, is_numeral, is_told_number, told_text, truth_of, truth_or_text, value_json}
@@ -76,7 +76,7 @@ column_put c j more lt plain flat =
     let later = flat.flat in
     record { numbers = (column_numbers c j lt plain, flat.numbers); flat = omega (arith, here, later) }
 
-cell_flat : (part : Part) (c : Column) (cell : Cell) (more : Items) → c.kind < 2 ^ 32 → Flat more → Flat (with_cell part c cell more)
+cell_flat : (part : ToldValues) (c : Column) (cell : Cell) (more : Items) → c.kind < 2 ^ 32 → Flat more → Flat (with_cell part c cell more)
 cell_flat part c cells.Unchanged more lt flat = flat
 cell_flat part c cells.Null more lt flat = by_told (is_told part c)
   where
@@ -85,7 +85,7 @@ cell_flat part c cells.Null more lt flat = by_told (is_told part c)
     by_told false = flat
 cell_flat part c (cells.Text text) more lt flat = column_put c (value_json c.kind text) more lt (value_plain c.kind text) flat
 
-row_flat : (part : Part) (columns : List Column) (row : List Cell) → AreKinds columns → Flat (cells_items part columns row)
+row_flat : (part : ToldValues) (columns : List Column) (row : List Cell) → AreKinds columns → Flat (cells_items part columns row)
 unfolding cells_items
 row_flat part [] row kinds = record { numbers = tt; flat = omega arith }
 row_flat part (c ∷ columns) [] kinds = record { numbers = tt; flat = omega arith }

@@ -12,7 +12,7 @@ use Rattle.json.specs.Token.{Token}
 use Rattle.json.specs.Tree.{json_tokens}
 use Rattle.replcmd.specs.Position.{position_text}
 use Rattle.message_lines.specs.Rows.{row_json}
-use Rattle.message_lines.specs.declared.parts.part.Part.TheVariants.{Whole, Key}
+use Rattle.message_lines.specs.declared.parts.told_values.ToldValues.TheVariants.{Whole, Key}
 
 -- where in the log it is told, and of which table
 abbrev pub change_members : List ℕ → ℕ → Relation → Members → Members

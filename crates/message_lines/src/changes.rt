@@ -9,8 +9,8 @@ ghost use Rattle.std.specs.Prelude.{codes};
 
 use crate::fault::LineFault;
 use crate::parts::members::{closed, opened, put_position, put_text};
-use crate::parts::part::Part;
 use crate::parts::rows::put_row;
+use crate::parts::told_values::ToldValues;
 use json::Writer;
 use pgoutput::{Delete, Insert, OldTuple, Relation, Update};
 use std::alloc::{AllocError, Global};
@@ -31,7 +31,7 @@ pub fn insert_line(
         alloc,
         &mut out,
         "columns",
-        Part::Whole,
+        ToldValues::Whole,
         relation,
         message.new.as_slice(),
     )?;
@@ -55,7 +55,7 @@ pub fn update_line(
         alloc,
         &mut out,
         "columns",
-        Part::Whole,
+        ToldValues::Whole,
         relation,
         message.new.as_slice(),
     )?;
@@ -127,12 +127,19 @@ fn put_old(
     ensures before { out.new.before ≡ out.old.before }
 {
     match old {
-        OldTuple::Key(row) => put_row(alloc, out, "identity", Part::Key, relation, row.as_slice()),
+        OldTuple::Key(row) => put_row(
+            alloc,
+            out,
+            "identity",
+            ToldValues::Key,
+            relation,
+            row.as_slice(),
+        ),
         OldTuple::Full(row) => put_row(
             alloc,
             out,
             "identity",
-            Part::Whole,
+            ToldValues::Whole,
             relation,
             row.as_slice(),
         ),

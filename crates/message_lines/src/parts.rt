@@ -2,6 +2,6 @@
 
 pub(crate) mod cell_text;
 pub(crate) mod members;
-pub(crate) mod part;
 pub(crate) mod rows;
+pub(crate) mod told_values;
 pub(crate) mod values;

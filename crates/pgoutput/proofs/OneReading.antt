@@ -6,9 +6,9 @@ use Rattle.pgoutput.specs.declared.logical.Logical.TheVariants as logical
 use Rattle.pgoutput.specs.declared.messages.begin.Begin.{Begin}
 use Rattle.pgoutput.specs.declared.messages.message.Message.{Message}
 use Rattle.pgoutput.specs.declared.messages.relation.Relation.{Relation}
-use Rattle.pgoutput.specs.declared.word.Word.{Word}
-use Rattle.pgoutput.specs.declared.word.Word.TheVariants as words
-use Rattle.pgoutput.specs.declared.word.Keepalive.{Keepalive}
+use Rattle.pgoutput.specs.declared.copy_both_message.CopyBothMessage.{CopyBothMessage}
+use Rattle.pgoutput.specs.declared.copy_both_message.CopyBothMessage.TheVariants as words
+use Rattle.pgoutput.specs.declared.copy_both_message.Keepalive.{Keepalive}
 use Rattle.pgoutput.specs.declared.published.Published.{Published}
 use Rattle.pgoutput.specs.declared.published.PublishedChange.{PublishedChange}
 use Rattle.pgoutput.specs.Words.{word_bytes, FitsWord}
@@ -26,7 +26,7 @@ message_kind (logical.Relation m) = 3
 message_kind (logical.Message m) = cond m.is_transactional 4 5
 message_kind _ = 4
 
-abbrev kind_of : Word → ℕ
+abbrev kind_of : CopyBothMessage → ℕ
 kind_of (words.Keepalive k) = 0
 kind_of (words.XLogData s) = message_kind s.message
 
@@ -45,7 +45,7 @@ change_kind relation (logical.Commit m) h = absurd h
 change_kind relation (logical.Relation m) h = absurd h
 
 -- after the Relations the next word is the same, and so is what follows it
-past_relations : (xs ys : List Word) (w v : Word) (u t : List Word) → AllByRecursion (λ x. kind_of x ≡ 3) xs → AllByRecursion (λ y. kind_of y ≡ 3) ys
+past_relations : (xs ys : List CopyBothMessage) (w v : CopyBothMessage) (u t : List CopyBothMessage) → AllByRecursion (λ x. kind_of x ≡ 3) xs → AllByRecursion (λ y. kind_of y ≡ 3) ys
     → (kind_of w ≡ 3 → ⊥) → (kind_of v ≡ 3 → ⊥) → xs ++ (w ∷ u) ≡ ys ++ (v ∷ t) → (w ≡ v) × (u ≡ t)
 past_relations [] [] w v u t all_x all_y not_w not_v e = (cc, cc)
 past_relations [] (y ∷ ys) w v u t all_x all_y not_w not_v e = let same : w ≡ y = cc in absurd (not_w (ap kind_of same ∙ all_y.0))
@@ -57,7 +57,7 @@ are_relations relation position clock [] = tt
 are_relations relation position clock (oid ∷ oids) = (refl, are_relations relation position clock oids)
 
 -- a change's words in front of others
-regrouped : (relation : ℕ → Relation) (relations_sent : List ℕ) (clock : ℤ) (c : PublishedChange) (cs : List PublishedChange) (x : List Word)
+regrouped : (relation : ℕ → Relation) (relations_sent : List ℕ) (clock : ℤ) (c : PublishedChange) (cs : List PublishedChange) (x : List CopyBothMessage)
     → changes_words relation relations_sent clock (c ∷ cs) ++ x
     ≡ relation_words relation c.position clock (relations_due relations_sent (tables_of c.message)) ++ (xlogdata_word c.position clock c.message ∷ (changes_words relation (relations_sent_by relations_sent c) clock cs ++ x))
 regrouped relation relations_sent clock c cs x =
@@ -71,19 +71,19 @@ change_of position message = record { position = position; message = message }
 same_xlogdata : (p q : ℕ) (c d : ℤ) (m n : Logical) → xlogdata_word p c m ≡ xlogdata_word q d n → (p ≡ q) × (c ≡ d) × (m ≡ n)
 same_xlogdata p q c d m n e = (ap position_in e, ap (clock_in c) e, ap (message_in m) e)
   where
-    position_in : Word → ℕ
+    position_in : CopyBothMessage → ℕ
     position_in (words.Keepalive k) = 0
     position_in (words.XLogData s) = s.start
 
-    clock_in : ℤ → Word → ℤ
+    clock_in : ℤ → CopyBothMessage → ℤ
     clock_in z (words.Keepalive k) = z
     clock_in z (words.XLogData s) = s.clock
 
-    message_in : Logical → Word → Logical
+    message_in : Logical → CopyBothMessage → Logical
     message_in z (words.Keepalive k) = z
     message_in z (words.XLogData s) = s.message
 
-same_changes : (relation : ℕ → Relation) (relations_sent : List ℕ) (clock : ℤ) (cs ds : List PublishedChange) (w v : Word) (x y : List Word)
+same_changes : (relation : ℕ → Relation) (relations_sent : List ℕ) (clock : ℤ) (cs ds : List PublishedChange) (w v : CopyBothMessage) (x y : List CopyBothMessage)
     → AllByRecursion (FitsChange relation) cs → AllByRecursion (FitsChange relation) ds → kind_of w ≡ 2 → kind_of v ≡ 2
     → changes_words relation relations_sent clock cs ++ (w ∷ x) ≡ changes_words relation relations_sent clock ds ++ (v ∷ y) → (cs ≡ ds) × (w ≡ v) × (x ≡ y)
 same_changes relation relations_sent clock [] [] w v x y fits_c fits_d is_w is_v e = (refl, cc, cc)
@@ -124,11 +124,11 @@ record AreSame (t u : Published) : Type 0 where
 is_no_begin : (m : Message) (b : Begin) → logical.Message m ≡ logical.Begin b → ⊥
 is_no_begin m b e = cc
 
-same_block : (relation : ℕ → Relation) (relations_sent : List ℕ) (a b : Bool) (clock other : ℤ) (t u : Published) (x y : List Word) → FitChanges a relation t → FitChanges b relation u
+same_block : (relation : ℕ → Relation) (relations_sent : List ℕ) (a b : Bool) (clock other : ℤ) (t u : Published) (x y : List CopyBothMessage) → FitChanges a relation t → FitChanges b relation u
     → words_by a relation relations_sent clock t ++ x ≡ words_by b relation relations_sent other u ++ y → (clock ≡ other) × (a ≡ b) × AreSame t u × (x ≡ y)
 same_block relation relations_sent true true clock other t u x y fits_t fits_u e =
     let words : xlogdata_word t.end clock (logical.Message fits_t.message) ∷ x ≡ xlogdata_word u.end other (logical.Message fits_u.message) ∷ y =
-    ap (λ (ws : List Word). ws ++ x) (sym (one_word clock t fits_t)) ∙ e ∙ ap (λ (ws : List Word). ws ++ y) (one_word other u fits_u) in
+    ap (λ (ws : List CopyBothMessage). ws ++ x) (sym (one_word clock t fits_t)) ∙ e ∙ ap (λ (ws : List CopyBothMessage). ws ++ y) (one_word other u fits_u) in
     let first : xlogdata_word t.end clock (logical.Message fits_t.message) ≡ xlogdata_word u.end other (logical.Message fits_u.message) = cc in
     let same = same_xlogdata t.end u.end clock other (logical.Message fits_t.message) (logical.Message fits_u.message) first in
     let messages : fits_t.message ≡ fits_u.message = let is = same.2 in cc in
@@ -147,19 +147,19 @@ same_block relation relations_sent true true clock other t u x y fits_t fits_u e
     )
 same_block relation relations_sent true false clock other t u x y fits_t fits_u e =
     let begun : Begin = record { position = u.start; time = u.time; xid = u.xid } in
-    let words : xlogdata_word t.end clock (logical.Message fits_t.message) ∷ x ≡ transaction_words relation relations_sent other u ++ y = ap (λ (ws : List Word). ws ++ x) (sym (one_word clock t fits_t)) ∙ e in
+    let words : xlogdata_word t.end clock (logical.Message fits_t.message) ∷ x ≡ transaction_words relation relations_sent other u ++ y = ap (λ (ws : List CopyBothMessage). ws ++ x) (sym (one_word clock t fits_t)) ∙ e in
     let first : xlogdata_word t.end clock (logical.Message fits_t.message) ≡ xlogdata_word u.start other (logical.Begin begun) = cc in
     absurd (is_no_begin fits_t.message begun (same_xlogdata t.end u.start clock other (logical.Message fits_t.message) (logical.Begin begun) first).2)
 same_block relation relations_sent false true clock other t u x y fits_t fits_u e =
     let begun : Begin = record { position = t.start; time = t.time; xid = t.xid } in
-    let words : transaction_words relation relations_sent clock t ++ x ≡ xlogdata_word u.end other (logical.Message fits_u.message) ∷ y = e ∙ ap (λ (ws : List Word). ws ++ y) (one_word other u fits_u) in
+    let words : transaction_words relation relations_sent clock t ++ x ≡ xlogdata_word u.end other (logical.Message fits_u.message) ∷ y = e ∙ ap (λ (ws : List CopyBothMessage). ws ++ y) (one_word other u fits_u) in
     let first : xlogdata_word t.start clock (logical.Begin begun) ≡ xlogdata_word u.end other (logical.Message fits_u.message) = cc in
     absurd (is_no_begin fits_u.message begun (sym (same_xlogdata t.start u.end clock other (logical.Begin begun) (logical.Message fits_u.message) first).2))
 same_block relation relations_sent false false clock other t u x y fits_t fits_u e =
     let begun : Logical = logical.Begin (record { position = t.start; time = t.time; xid = t.xid }) in
     let begun_too : Logical = logical.Begin (record { position = u.start; time = u.time; xid = u.xid }) in
-    let ended : Word = xlogdata_word t.end clock (logical.Commit (record { position = t.start; end = t.end; time = t.time })) in
-    let ended_too : Word = xlogdata_word u.end other (logical.Commit (record { position = u.start; end = u.end; time = u.time })) in
+    let ended : CopyBothMessage = xlogdata_word t.end clock (logical.Commit (record { position = t.start; end = t.end; time = t.time })) in
+    let ended_too : CopyBothMessage = xlogdata_word u.end other (logical.Commit (record { position = u.start; end = u.end; time = u.time })) in
     let first : xlogdata_word t.start clock begun ≡ xlogdata_word u.start other begun_too = cc in
     let front = same_xlogdata t.start u.start clock other begun begun_too first in
     let tails : (changes_words relation relations_sent clock t.changes ++ (ended ∷ [])) ++ x ≡ (changes_words relation relations_sent other u.changes ++ (ended_too ∷ [])) ++ y = cc in
@@ -179,21 +179,21 @@ same_block relation relations_sent false false clock other t u x y fits_t fits_u
     xid_in z (logical.Begin m) = m.xid
     xid_in z _ = z
 
-no_keepalive : (relation : ℕ → Relation) (relations_sent : List ℕ) (is_note : Bool) (clock : ℤ) (t : Published) (k : Keepalive) (x y : List Word) → FitChanges is_note relation t
+no_keepalive : (relation : ℕ → Relation) (relations_sent : List ℕ) (is_note : Bool) (clock : ℤ) (t : Published) (k : Keepalive) (x y : List CopyBothMessage) → FitChanges is_note relation t
     → words_by is_note relation relations_sent clock t ++ x ≡ words.Keepalive k ∷ y → ⊥
 no_keepalive relation relations_sent false clock t k x y fits e = cc
 no_keepalive relation relations_sent true clock t k x y fits e =
-    let words : xlogdata_word t.end clock (logical.Message fits.message) ∷ x ≡ words.Keepalive k ∷ y = ap (λ (ws : List Word). ws ++ x) (sym (one_word clock t fits)) ∙ e in
+    let words : xlogdata_word t.end clock (logical.Message fits.message) ∷ x ≡ words.Keepalive k ∷ y = ap (λ (ws : List CopyBothMessage). ws ++ x) (sym (one_word clock t fits)) ∙ e in
     cc
 
-no_words : (relation : ℕ → Relation) (relations_sent : List ℕ) (is_note : Bool) (clock : ℤ) (t : Published) (x : List Word) → FitChanges is_note relation t
+no_words : (relation : ℕ → Relation) (relations_sent : List ℕ) (is_note : Bool) (clock : ℤ) (t : Published) (x : List CopyBothMessage) → FitChanges is_note relation t
     → words_by is_note relation relations_sent clock t ++ x ≡ [] → ⊥
 no_words relation relations_sent false clock t x fits e = cc
 no_words relation relations_sent true clock t x fits e =
-    let words : xlogdata_word t.end clock (logical.Message fits.message) ∷ x ≡ [] = ap (λ (ws : List Word). ws ++ x) (sym (one_word clock t fits)) ∙ e in
+    let words : xlogdata_word t.end clock (logical.Message fits.message) ∷ x ≡ [] = ap (λ (ws : List CopyBothMessage). ws ++ x) (sym (one_word clock t fits)) ∙ e in
     cc
 
-same_item : (relation : ℕ → Relation) (relations_sent : List ℕ) (i j : Item) (x y : List Word) → FitsItem relation i → FitsItem relation j
+same_item : (relation : ℕ → Relation) (relations_sent : List ℕ) (i j : Item) (x y : List CopyBothMessage) → FitsItem relation i → FitsItem relation j
     → item_words relation relations_sent i ++ x ≡ item_words relation relations_sent j ++ y → (i ≡ j) × (x ≡ y)
 same_item relation relations_sent (KeepaliveItem k) (KeepaliveItem l) x y fits_i fits_j e =
     let heads : words.Keepalive k ≡ words.Keepalive l = cc in
@@ -210,7 +210,7 @@ same_item relation relations_sent (Block clock t) (Block other u) x y fits_i fit
     (ap (λ (z : ℤ). Block z t) inner.0 ∙ ap (Block other) whole, inner.3)
 
 -- items whose words begin the words of others are a beginning of those
-pub begun_words : (relation : ℕ → Relation) (relations_sent : List ℕ) (a b : List Item) (x : List Word) → FitItems relation a → FitItems relation b
+pub begun_words : (relation : ℕ → Relation) (relations_sent : List ℕ) (a b : List Item) (x : List CopyBothMessage) → FitItems relation a → FitItems relation b
     → words_of relation relations_sent a ++ x ≡ words_of relation relations_sent b → (more : List Item) × (b ≡ a ++ more)
 begun_words relation relations_sent [] b x fits_a fits_b e = (b, refl)
 begun_words relation relations_sent (KeepaliveItem k ∷ a) [] x fits_a fits_b e = absurd cc

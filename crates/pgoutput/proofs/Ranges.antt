@@ -11,9 +11,9 @@ use Rattle.pgoutput.specs.declared.logical.Logical.{Logical}
 use Rattle.pgoutput.specs.declared.logical.Logical.TheVariants as logical
 use Rattle.pgoutput.specs.declared.messages.relation.Relation.{Relation}
 use Rattle.pgoutput.specs.Logical.{spell_logical, FitsLogical}
-use Rattle.pgoutput.specs.declared.word.Word.{Word}
-use Rattle.pgoutput.specs.declared.word.Word.TheVariants as words
-use Rattle.pgoutput.specs.declared.word.Keepalive.{Keepalive}
+use Rattle.pgoutput.specs.declared.copy_both_message.CopyBothMessage.{CopyBothMessage}
+use Rattle.pgoutput.specs.declared.copy_both_message.CopyBothMessage.TheVariants as words
+use Rattle.pgoutput.specs.declared.copy_both_message.Keepalive.{Keepalive}
 use Rattle.pgoutput.specs.declared.published.Published.{Published}
 use Rattle.pgoutput.specs.declared.published.PublishedChange.{PublishedChange}
 use Rattle.pgoutput.proofs.Lists.{all_of_both}
@@ -77,7 +77,7 @@ changes_fit relation relations_sent clock (c ∷ cs) fits all =
 block_fits : (relation : ℕ → Relation) (relations_sent : List ℕ) (is_note : Bool) (clock : ℤ) (t : Published) → FitsSigned w64 clock → FitsPublished relation t → FitChanges is_note relation t
     → AllByRecursion FitsWord (words_by is_note relation relations_sent clock t)
 block_fits relation relations_sent true clock t in_range fits changes =
-    let All : List Word → Type 0 = λ ws. AllByRecursion FitsWord ws in
+    let All : List CopyBothMessage → Type 0 = λ ws. AllByRecursion FitsWord ws in
     subst All (sym (one_word clock t changes)) (xlogdata_fits t.end clock (logical.Message changes.message) fits.end in_range changes.fits changes.short, tt)
 block_fits relation relations_sent false clock t in_range fits changes =
     let begun : FitsWord (xlogdata_word t.start clock (logical.Begin (record { position = t.start; time = t.time; xid = t.xid }))) =

@@ -6,7 +6,7 @@ use Rattle.pgoutput.specs.declared.logical.Logical.TheVariants as logical
 use Rattle.pgoutput.specs.declared.messages.relation.Relation.{Relation}
 use Rattle.pgoutput.specs.declared.messages.relation.Identity.TheVariants as identities
 use Rattle.pgoutput.specs.declared.parts.tuple.Cell.TheVariants as cells
-use Rattle.pgoutput.specs.declared.word.Word.TheVariants as words
+use Rattle.pgoutput.specs.declared.copy_both_message.CopyBothMessage.TheVariants as words
 use Rattle.pgoutput.specs.declared.published.Published.{Published}
 use Rattle.pgoutput.specs.Words.{word_bytes}
 use Rattle.pgoutput.specs.Items.{Block, xlogdata_word, words_of, bytes_of_items}

@@ -27,7 +27,7 @@ use Rattle.pgoutput.specs.Truncate.{options_letter, truncate, FitsTruncate, trun
 use Rattle.pgoutput.specs.Message.{message, message_at, FitsMessage}
 use Rattle.pgoutput.specs.Logical.{logical_at, fields_at, is_kind, spell_logical, FitsLogical}
 use Rattle.pgoutput.specs.Layout as layout
-use Rattle.pgoutput.specs.Layout.{Field, spell_field, spell_fields, IsAtFault, Stops, StopsIn, mark, row_letters, old_letters, tuple_fields, row_fields, update_fields, old_fields, delete_fields, truncate_fields, oid_field, message_fields, fields_behind, fields_of}
+use Rattle.pgoutput.specs.Layout.{Field, spell_field, spell_fields, IsAtFault, Stops, StopsIn, mark, row_letters, old_letters, tuple_fields, row_fields, update_fields, old_fields, delete_fields, truncate_fields, oid_field, message_fields, fields_after, fields_of}
 use Rattle.pgoutput.specs.Layout.Field.{Number, Letter, Count32}
 use Rattle.pgoutput.proofs.Wires as wires
 use Rattle.pgoutput.proofs.Wires.{FitRows, FitTuples, Rows, Tuples, rows, tuples, logical_chosen, logical_codec}
@@ -141,18 +141,18 @@ message_told = told_of wires.message_wire (
 abbrev kind : ℕ → Field
 kind k = Number (k ∷ [])
 
-behind_kind : (k : ℕ) (fields : List Field) (text : List ℕ) → spell_fields fields ≡ text → spell_fields (kind k ∷ fields) ≡ k ∷ text
-behind_kind k fields text spelled = spell-cons (kind k) fields ∙ ap (λ (l : List ℕ). k ∷ l) spelled
+after_kind : (k : ℕ) (fields : List Field) (text : List ℕ) → spell_fields fields ≡ text → spell_fields (kind k ∷ fields) ≡ k ∷ text
+after_kind k fields text spelled = spell-cons (kind k) fields ∙ ap (λ (l : List ℕ). k ∷ l) spelled
 
 pub logical_spelled : (m : Logical) → spell_fields (fields_of m) ≡ spell_logical m
-logical_spelled (logical.Begin m) = behind_kind BEGIN (layout.begin_fields m) _ (begin_told.spelled m)
-logical_spelled (logical.Commit m) = behind_kind COMMIT (layout.commit_fields m) _ (commit_told.spelled m)
-logical_spelled (logical.Relation m) = behind_kind RELATION (layout.relation_fields m) _ (relation_told.spelled m)
-logical_spelled (logical.Insert m) = behind_kind INSERT (layout.insert_fields m) _ (insert_told.spelled m)
-logical_spelled (logical.Update m) = behind_kind UPDATE (layout.update_fields m) _ (update_told.spelled m)
-logical_spelled (logical.Delete m) = behind_kind DELETE (layout.delete_fields m) _ (delete_told.spelled m)
-logical_spelled (logical.Truncate m) = behind_kind TRUNCATE (layout.truncate_fields m) _ (truncate_told.spelled m)
-logical_spelled (logical.Message m) = behind_kind MESSAGE (layout.message_fields m) _ (message_told.spelled m)
+logical_spelled (logical.Begin m) = after_kind BEGIN (layout.begin_fields m) _ (begin_told.spelled m)
+logical_spelled (logical.Commit m) = after_kind COMMIT (layout.commit_fields m) _ (commit_told.spelled m)
+logical_spelled (logical.Relation m) = after_kind RELATION (layout.relation_fields m) _ (relation_told.spelled m)
+logical_spelled (logical.Insert m) = after_kind INSERT (layout.insert_fields m) _ (insert_told.spelled m)
+logical_spelled (logical.Update m) = after_kind UPDATE (layout.update_fields m) _ (update_told.spelled m)
+logical_spelled (logical.Delete m) = after_kind DELETE (layout.delete_fields m) _ (delete_told.spelled m)
+logical_spelled (logical.Truncate m) = after_kind TRUNCATE (layout.truncate_fields m) _ (truncate_told.spelled m)
+logical_spelled (logical.Message m) = after_kind MESSAGE (layout.message_fields m) _ (message_told.spelled m)
 
 logical_told : ChosenTold UnknownKind fields_at fields_of FitsLogical is_kind
 logical_told =

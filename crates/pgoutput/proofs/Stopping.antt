@@ -88,9 +88,9 @@ with_range G wire c there back = record {
 }
 
 -- the same of a value with more fields after
-pub with_behind : {A B : Type 0} {fa : A → List Field} {F : A → Type 0} {fields : B → List Field} {G : B → Type 0} {e : PgoutputError} {bytes : List ℕ}
+pub with_after : {A B : Type 0} {fa : A → List Field} {F : A → Type 0} {fields : B → List Field} {G : B → Type 0} {e : PgoutputError} {bytes : List ℕ}
     → (s : Stops fa F e bytes) (x : B) (behind : List Field) → G x → fields x ≡ fa s.value ++ behind → Stops fields G e bytes
-with_behind s x behind fits is = record {
+with_after s x behind fits is = record {
   value = x;
   in_range = fits;
   before = s.before;
@@ -120,8 +120,8 @@ with_front bytes text rest s x front parts spelled fits is = record {
 }
 
 -- what is left after the fields of the front
-pub behind_front : (text : List ℕ) (before front xs : List Field) (rest : List ℕ) → before ≡ xs ++ front → spell_fields xs ≡ text → spell_fields before ++ rest ≡ text ++ (spell_fields front ++ rest)
-behind_front text before front xs rest is spelled =
+pub after_front : (text : List ℕ) (before front xs : List Field) (rest : List ℕ) → before ≡ xs ++ front → spell_fields xs ≡ text → spell_fields before ++ rest ≡ text ++ (spell_fields front ++ rest)
+after_front text before front xs rest is spelled =
     ap (λ l. spell_fields l ++ rest) is ∙ ap (λ l. l ++ rest) (spell-append xs front ∙ ap (λ l. l ++ spell_fields front) spelled) ∙ append_assoc text (spell_fields front) rest
 
 -- a field p of a message, and the fields after it
@@ -147,7 +147,7 @@ field {A} {M} {read} {t} {F} {fa} c p Known k text Fits fields after = record {
         | inr last ↦
             let left : List ℕ = spell_fields last.front ++ s.rest in
             let fits = s.in_range.1.0 in
-            let whole : bytes ≡ t (p s.value) ++ left = s.text ∙ behind_front (t (p s.value)) s.before last.front (fa (p s.value)) s.rest last.is_before (c.spelled (p s.value)) in
+            let whole : bytes ≡ t (p s.value) ++ left = s.text ∙ after_front (t (p s.value)) s.before last.front (fa (p s.value)) s.rest last.is_before (c.spelled (p s.value)) in
             rw (whole, c.wire.codec.again (p s.value) left fits)
             ((after (p s.value) fits).stands left e (record { value = s.value; in_range = ((refl, s.in_range.0), s.in_range.1.1); before = last.front; next = s.next; after = s.after; rest = s.rest; parts = last.is; text = refl; at_fault = s.at_fault }))
       ];
@@ -158,7 +158,7 @@ field {A} {M} {read} {t} {F} {fa} c p Known k text Fits fields after = record {
   in_first : (bytes : List ℕ) (e : PgoutputError) → Stops fa F e bytes → Stops (λ m. fa (p m) ++ fields m) (λ m. Known m × (F (p m) × Fits m)) e bytes
   in_first bytes e s =
       let m = (after s.value s.in_range).some in
-      with_behind s m.value (fields m.value) (m.fits.0.1, (subst F (sym m.fits.0.0) s.in_range, m.fits.1)) (ap (λ a. fa a ++ fields m.value) m.fits.0.0)
+      with_after s m.value (fields m.value) (m.fits.0.1, (subst F (sym m.fits.0.0) s.in_range, m.fits.1)) (ap (λ a. fa a ++ fields m.value) m.fits.0.0)
 
   behind : (bytes : List ℕ) (e : PgoutputError) (a : A) (rest : List ℕ) → bytes ≡ t a ++ rest → F a → Stops fields (λ m. ((p m ≡ a) × Known m) × Fits m) e rest
       → Stops (λ m. fa (p m) ++ fields m) (λ m. Known m × (F (p m) × Fits m)) e bytes

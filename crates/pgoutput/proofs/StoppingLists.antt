@@ -14,7 +14,7 @@ use Rattle.pgoutput.specs.Layout.{Field, spell_field, spell_fields, IsAtFault, S
 use Rattle.pgoutput.specs.Layout.Field.{Letter}
 use Rattle.pgoutput.proofs.Engine as engine
 use Rattle.pgoutput.proofs.Engine.{Wire, bind_err, by_first}
-use Rattle.pgoutput.proofs.Stopping.{Told, InRange, parted, none_in, spell-append, spell-cons, with_behind, with_front, behind_front}
+use Rattle.pgoutput.proofs.Stopping.{Told, InRange, parted, none_in, spell-append, spell-cons, with_after, with_front, after_front}
 
 -- ---- n of them, one after the other
 
@@ -40,7 +40,7 @@ list_stops {A} {read} {t} {F} {fa} c (suc n) bytes e fits is =
       | inl first ↦
           let s = c.stops bytes e fits first in
           let others = replicate n c.some.value in
-          with_behind s (s.value ∷ others) (flat_map fa others) (ap suc (length-replicate n c.some.value), (s.in_range, all_same F c.some.value n c.some.fits)) (flat_map-cons fa s.value others)
+          with_after s (s.value ∷ others) (flat_map fa others) (ap suc (length-replicate n c.some.value), (s.in_range, all_same F c.some.value n c.some.fits)) (flat_map-cons fa s.value others)
       | inr a ↦
           let took = c.wire.codec.takes bytes a.0.0 a.0.1 fits a.1 in
           elim (bind_err (repeat_at read n a.0.1) (λ others. Ok (a.0.0 ∷ others.0, others.1)) e a.2) [
@@ -61,7 +61,7 @@ list_stands {A} {read} {t} {F} {fa} c (x ∷ xs) before next after rest e fits p
       | inl first ↦ rw (c.stands (spell_fields before ++ rest) e (record { value = x; in_range = fits.0; before = before; next = next; after = first.after; rest = rest; parts = first.is; text = refl; at_fault = at_fault })) refl
       | inr last ↦
           let left : List ℕ = spell_fields last.front ++ rest in
-          let whole : spell_fields before ++ rest ≡ t x ++ left = behind_front (t x) before last.front (fa x) rest last.is_before (c.spelled x) in
+          let whole : spell_fields before ++ rest ≡ t x ++ left = after_front (t x) before last.front (fa x) rest last.is_before (c.spelled x) in
           rw (whole, c.wire.codec.again x left fits.0, list_stands c xs last.front next after rest e fits.1 last.is at_fault) refl
     ]
 

@@ -263,13 +263,13 @@ options_wire = letter_wire options_of options_letter (λ b o. options_there b o.
 abbrev Counted : ℕ → Truncate → Type 0
 Counted n m = (length m.oids ≡ n) × AllByRecursion (λ oid. oid < 2 ^ 32) m.oids
 
-abbrev oids_behind : ℕ → List ℕ → Result (Truncate × List ℕ) PgoutputError
-oids_behind n bytes = do
+abbrev oids_after : ℕ → List ℕ → Result (Truncate × List ℕ) PgoutputError
+oids_after n bytes = do
   options ← one_of options_of bytes
   oids ← repeat_at oid_at n options.1
   Ok (record { options = options.0; oids = oids.0 }, oids.1)
 
-pub oids_wire : (n : ℕ) → Wire (oids_behind n) (λ m. (options_letter m.options ∷ []) ++ flat_map int32 m.oids) (Counted n)
+pub oids_wire : (n : ℕ) → Wire (oids_after n) (λ m. (options_letter m.options ∷ []) ++ flat_map int32 m.oids) (Counted n)
 oids_wire n = wire_of (
     free_field options_wire (λ _. tt) (λ m. m.options) _ _ _ _ (λ options.
     last_field (repeated number32 n) (λ m. m.oids) _ (λ oids. record { options = options; oids = oids })

@@ -19,10 +19,10 @@ use Rattle.frames.proofs.Frames.{frame_begins}
 use Rattle.copyboth.specs.Keepalive.{ask_byte}
 use Rattle.pgoutput.specs.declared.logical.Logical.{Logical}
 use Rattle.pgoutput.specs.Logical.{spell_logical, FitsLogical}
-use Rattle.pgoutput.specs.declared.word.Word.{Word}
-use Rattle.pgoutput.specs.declared.word.Word.TheVariants as words
-use Rattle.pgoutput.specs.declared.word.Keepalive.{Keepalive}
-use Rattle.pgoutput.specs.declared.word.XLogData.{XLogData}
+use Rattle.pgoutput.specs.declared.copy_both_message.CopyBothMessage.{CopyBothMessage}
+use Rattle.pgoutput.specs.declared.copy_both_message.CopyBothMessage.TheVariants as words
+use Rattle.pgoutput.specs.declared.copy_both_message.Keepalive.{Keepalive}
+use Rattle.pgoutput.specs.declared.copy_both_message.XLogData.{XLogData}
 use Rattle.pgoutput.specs.Words.{word_body, word_bytes, FitsWord}
 
 -- Of two words that begin the same bytes one is the other.
@@ -72,7 +72,7 @@ IsSpelledOnce = (m n : Logical) → FitsLogical m → FitsLogical n → spell_lo
 heads : (a b : ℕ) (x y : List ℕ) → a ∷ x ≡ b ∷ y → a ≡ b
 heads a b x y e = cc
 
-word_body_once : IsSpelledOnce → (a b : Word) → FitsWord a → FitsWord b → word_body a ≡ word_body b → a ≡ b
+word_body_once : IsSpelledOnce → (a b : CopyBothMessage) → FitsWord a → FitsWord b → word_body a ≡ word_body b → a ≡ b
 word_body_once once (words.Keepalive k) (words.Keepalive l) fits_a fits_b e =
     let tails : int64 k.position ++ (int64 (cast_unsigned w64 k.clock) ++ (ask_byte k.ask ∷ [])) ≡ int64 l.position ++ (int64 (cast_unsigned w64 l.clock) ++ (ask_byte l.ask ∷ [])) = cc in
     let at = peel64 k.position l.position (int64 (cast_unsigned w64 k.clock) ++ (ask_byte k.ask ∷ [])) (int64 (cast_unsigned w64 l.clock) ++ (ask_byte l.ask ∷ [])) fits_a.fields.0 fits_b.fields.0 tails in

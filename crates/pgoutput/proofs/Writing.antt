@@ -5,6 +5,6 @@ use Rattle.pqformat.specs.Putting.{Puts}
 use Rattle.pqformat.proofs.Putting.{extends_back}
 
 -- what stands after a part that was put
-pub puts_behind : (r : Result (Unit {0}) AllocError) (old mid new a b : List ℕ) → mid ≡ old ++ a → Puts r mid new b → Puts r old new (a ++ b)
-puts_behind (Ok u) old mid new a b first rest = rest ∙ ap (λ (l : List ℕ). l ++ b) first ∙ append_assoc old a b
-puts_behind (Err e) old mid new a b first rest = extends_back old a new (rw first at rest)
+pub puts_after : (r : Result (Unit {0}) AllocError) (old mid new a b : List ℕ) → mid ≡ old ++ a → Puts r mid new b → Puts r old new (a ++ b)
+puts_after (Ok u) old mid new a b first rest = rest ∙ ap (λ (l : List ℕ). l ++ b) first ∙ append_assoc old a b
+puts_after (Err e) old mid new a b first rest = extends_back old a new (rw first at rest)

@@ -12,9 +12,9 @@ use Rattle.pgoutput.specs.declared.parts.tuple.Cell.{Cell}
 use Rattle.pgoutput.specs.declared.parts.old_tuple.OldTuple.{OldTuple}
 use Rattle.pgoutput.specs.OldTuple.{cells_of}
 use Rattle.pgoutput.specs.Logical.{spell_logical, FitsLogical}
-use Rattle.pgoutput.specs.declared.word.Word.{Word}
-use Rattle.pgoutput.specs.declared.word.Word.TheVariants as words
-use Rattle.pgoutput.specs.declared.word.Keepalive.{Keepalive}
+use Rattle.pgoutput.specs.declared.copy_both_message.CopyBothMessage.{CopyBothMessage}
+use Rattle.pgoutput.specs.declared.copy_both_message.CopyBothMessage.TheVariants as words
+use Rattle.pgoutput.specs.declared.copy_both_message.Keepalive.{Keepalive}
 use Rattle.pgoutput.specs.declared.published.Published.{Published}
 use Rattle.pgoutput.specs.declared.published.PublishedChange.{PublishedChange}
 use Rattle.frames.specs.declared.parts.frame.TheConstants.{FRAME_LIMIT}
@@ -27,10 +27,10 @@ pub data Item : Type 0 where
 -- ---- Words.
 
 -- one message at a position: the second number of its XLogData repeats the first
-abbrev pub xlogdata_word : ℕ → ℤ → Logical → Word
+abbrev pub xlogdata_word : ℕ → ℤ → Logical → CopyBothMessage
 xlogdata_word position clock message = words.XLogData (record { start = position; end = position; clock = clock; message = message })
 
-abbrev pub keepalive_word : ℕ → ℤ → Bool → Word
+abbrev pub keepalive_word : ℕ → ℤ → Bool → CopyBothMessage
 keepalive_word position clock ask = words.Keepalive (record { position = position; clock = clock; ask = ask })
 
 -- the tables that a message names, in the order in which it names them
@@ -61,15 +61,15 @@ relations_sent_by_all relations_sent [] = relations_sent
 relations_sent_by_all relations_sent (c ∷ cs) = relations_sent_by_all (relations_sent_by relations_sent c) cs
 
 -- the Relations of these tables, at a position
-abbrev pub relation_words : (ℕ → Relation) → ℕ → ℤ → List ℕ → List Word
+abbrev pub relation_words : (ℕ → Relation) → ℕ → ℤ → List ℕ → List CopyBothMessage
 relation_words relation position clock oids = map (λ oid. xlogdata_word position clock (logical.Relation (relation oid))) oids
 
 -- a change: the Relations that are due, and its message, all at its position
-abbrev pub change_words : (ℕ → Relation) → List ℕ → ℤ → PublishedChange → List Word
+abbrev pub change_words : (ℕ → Relation) → List ℕ → ℤ → PublishedChange → List CopyBothMessage
 change_words relation relations_sent clock c =
     relation_words relation c.position clock (relations_due relations_sent (tables_of c.message)) ++ (xlogdata_word c.position clock c.message ∷ [])
 
-abbrev pub changes_words : (ℕ → Relation) → List ℕ → ℤ → List PublishedChange → List Word
+abbrev pub changes_words : (ℕ → Relation) → List ℕ → ℤ → List PublishedChange → List CopyBothMessage
 changes_words relation relations_sent clock [] = []
 changes_words relation relations_sent clock (c ∷ cs) = change_words relation relations_sent clock c ++ changes_words relation (relations_sent_by relations_sent c) clock cs
 
@@ -80,25 +80,25 @@ abbrev pub commit_message : Published → Logical
 commit_message t = logical.Commit (record { position = t.start; end = t.end; time = t.time })
 
 -- a transaction: Begin at the start of the commit record, the changes in order, Commit at its end
-abbrev pub transaction_words : (ℕ → Relation) → List ℕ → ℤ → Published → List Word
+abbrev pub transaction_words : (ℕ → Relation) → List ℕ → ℤ → Published → List CopyBothMessage
 transaction_words relation relations_sent clock t =
     xlogdata_word t.start clock (begin_message t)
     ∷ (changes_words relation relations_sent clock t.changes
     ++ (xlogdata_word t.end clock (commit_message t) ∷ []))
 
 -- a note: its message by itself, at the end of its record
-abbrev pub note_words : ℤ → Published → List Word
+abbrev pub note_words : ℤ → Published → List CopyBothMessage
 note_words clock t = map (λ c. xlogdata_word t.end clock c.message) t.changes
 
-abbrev pub words_by : (is_note : Bool) → (ℕ → Relation) → List ℕ → ℤ → Published → List Word
+abbrev pub words_by : (is_note : Bool) → (ℕ → Relation) → List ℕ → ℤ → Published → List CopyBothMessage
 words_by false relation relations_sent clock t = transaction_words relation relations_sent clock t
 words_by true relation relations_sent clock t = note_words clock t
 
 -- a block
-abbrev pub block_words : (ℕ → Relation) → List ℕ → ℤ → Published → List Word
+abbrev pub block_words : (ℕ → Relation) → List ℕ → ℤ → Published → List CopyBothMessage
 block_words relation relations_sent clock t = words_by t.is_note relation relations_sent clock t
 
-abbrev pub item_words : (ℕ → Relation) → List ℕ → Item → List Word
+abbrev pub item_words : (ℕ → Relation) → List ℕ → Item → List CopyBothMessage
 item_words relation relations_sent (KeepaliveItem k) = words.Keepalive k ∷ []
 item_words relation relations_sent (Block clock t) = block_words relation relations_sent clock t
 
@@ -107,7 +107,7 @@ relations_sent_after relations_sent (KeepaliveItem k) = relations_sent
 relations_sent_after relations_sent (Block clock t) = relations_sent_by_all relations_sent t.changes
 
 -- the words of the items, where the Relations of these tables were sent before them
-abbrev pub words_of : (ℕ → Relation) → List ℕ → List Item → List Word
+abbrev pub words_of : (ℕ → Relation) → List ℕ → List Item → List CopyBothMessage
 words_of relation relations_sent [] = []
 words_of relation relations_sent (item ∷ items) = item_words relation relations_sent item ++ words_of relation (relations_sent_after relations_sent item) items
 

@@ -149,19 +149,19 @@ message_fields m =
     Letter transactional_flags (message_flags m.is_transactional) ∷ Number (int64 m.position) ∷ Name m.prefix
     ∷ Count32 (length m.content) ∷ Bytes m.content ∷ []
 
-abbrev pub fields_behind : Logical → List Field
-fields_behind (logical.Begin m) = begin_fields m
-fields_behind (logical.Commit m) = commit_fields m
-fields_behind (logical.Relation m) = relation_fields m
-fields_behind (logical.Insert m) = insert_fields m
-fields_behind (logical.Update m) = update_fields m
-fields_behind (logical.Delete m) = delete_fields m
-fields_behind (logical.Truncate m) = truncate_fields m
-fields_behind (logical.Message m) = message_fields m
+abbrev pub fields_after : Logical → List Field
+fields_after (logical.Begin m) = begin_fields m
+fields_after (logical.Commit m) = commit_fields m
+fields_after (logical.Relation m) = relation_fields m
+fields_after (logical.Insert m) = insert_fields m
+fields_after (logical.Update m) = update_fields m
+fields_after (logical.Delete m) = delete_fields m
+fields_after (logical.Truncate m) = truncate_fields m
+fields_after (logical.Message m) = message_fields m
 
 -- The kind byte is judged by itself, as O2.
 abbrev pub fields_of : Logical → List Field
-fields_of m = Number (kind_byte m ∷ []) ∷ fields_behind m
+fields_of m = Number (kind_byte m ∷ []) ∷ fields_after m
 
 -- ---- What stands where a field is due.
 

@@ -9,26 +9,26 @@ use Rattle.frames.specs.declared.parts.frame.TheConstants.{FRAME_LIMIT}
 use Rattle.copyboth.specs.Keepalive.{keepalive}
 use Rattle.copyboth.specs.XLogData.{xlogdata}
 use Rattle.pgoutput.specs.Logical.{spell_logical, FitsLogical}
-use Rattle.pgoutput.specs.declared.word.Word.{Word}
-use Rattle.pgoutput.specs.declared.word.Word.TheVariants as words
+use Rattle.pgoutput.specs.declared.copy_both_message.CopyBothMessage.{CopyBothMessage}
+use Rattle.pgoutput.specs.declared.copy_both_message.CopyBothMessage.TheVariants as words
 
 -- what the CopyData of a word holds
-abbrev pub word_body : Word → List ℕ
+abbrev pub word_body : CopyBothMessage → List ℕ
 word_body (words.Keepalive k) = keepalive k.position k.clock k.ask
 word_body (words.XLogData s) = xlogdata s.start s.end s.clock (spell_logical s.message)
 
-abbrev pub word_bytes : Word → List ℕ
+abbrev pub word_bytes : CopyBothMessage → List ℕ
 word_bytes w = frame COPY_DATA (word_body w)
 
 -- what words spell, one after the other
-abbrev pub frames_of : List Word → List ℕ
+abbrev pub frames_of : List CopyBothMessage → List ℕ
 frames_of ws = flat_map word_bytes ws
 
-abbrev pub AreFieldsInRange : Word → Type 0
+abbrev pub AreFieldsInRange : CopyBothMessage → Type 0
 AreFieldsInRange (words.Keepalive k) = (k.position < 2 ^ 64) × FitsSigned w64 k.clock
 AreFieldsInRange (words.XLogData s) = (s.start < 2 ^ 64) × (s.end < 2 ^ 64) × FitsSigned w64 s.clock × FitsLogical s.message
 
 -- every number, text and count fits its field, and the frame is within its limit
-pub record FitsWord (w : Word) : Type 0 where
+pub record FitsWord (w : CopyBothMessage) : Type 0 where
   pub fields : AreFieldsInRange w
   pub short : 4 + length (word_body w) ≤ FRAME_LIMIT

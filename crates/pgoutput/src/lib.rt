@@ -2,7 +2,7 @@
 //! is, with the law that it is read back in one way.
 //!
 //! A file for each message (`messages/begin.rt` to `messages/truncate.rt`), each with its fields, its letter, its reader and its writer.
-//! `logical.rt` tells them apart by their letters. `word.rt` has what a server says in a stream, and `published.rt` a
+//! `logical.rt` tells them apart by their letters. `copy_both_message.rt` has what a server says in a stream, and `published.rt` a
 //! transaction as a stream carries it.
 //!
 //! Read `messages/insert.rt` and `parts/tuple.rt`, then `logical.rt`, then `reading.rt` with specs/Stream.antt. Above, the definition of a
@@ -10,6 +10,7 @@
 //! exactly what its writer adds.
 #![tactic(auto)]
 
+mod copy_both_message;
 mod fault;
 mod logical;
 mod messages;
@@ -17,8 +18,8 @@ mod parts;
 mod published;
 mod reading;
 mod round_trip;
-mod word;
 
+pub use copy_both_message::{CopyBothMessage, Keepalive, XLogData};
 pub use fault::PgoutputError;
 pub use logical::{
     Logical, a_message_is_its_fields, no_message_goes_on, no_message_has_two_spellings,
@@ -45,4 +46,3 @@ pub use parts::tuple::{Cell, NULL, TEXT, UNCHANGED};
 pub use published::{Published, PublishedChange};
 pub use reading::a_stream_has_one_reading;
 pub use round_trip::written_and_read;
-pub use word::{Keepalive, Word, XLogData};

@@ -174,12 +174,12 @@ pub fn no_message_has_two_spellings()
         spell_logical m ++ x ≡ spell_logical n ++ y → (m ≡ n) × (x ≡ y) }
 {}
 
-/// The law of the layouts, by which O1, O3 and O4 are told: the fields of a message, one after the other, are its spelling.
+/// The law of the layouts, by which `Short` (O1), `BadMark` (O3) and `BadText` (O4) are told: the fields of a message, one after the other, are its spelling.
 pub fn a_message_is_its_fields()
     ensures { (m : Logical) → spell_fields (fields_of m) ≡ spell_logical m }
 {}
 
-/// The law of what is at fault: where O3 or O4 stands, no message begins with the bytes, whatever follows them.
+/// The law of what is at fault: where `BadMark` (O3) or `BadText` (O4) stands, no message begins with the bytes, whatever follows them.
 pub fn no_message_goes_on()
     ensures { (bytes more : List ℕ) (e : PgoutputError) (m : Logical) → e ≢ PgoutputError.Short →
         StopsIn e bytes → FitsLogical m → spell_logical m ≡ bytes ++ more → ⊥ }

@@ -26,12 +26,12 @@ use options::words::{Numbers, Words};
 use running::beginning::{begin_reading, begin_telling, begin_watching};
 use running::descriptors::open_standard;
 use running::ending::ListenerHandles;
-use running::host::{Host, Shared};
+use running::host::{Host, SharedHost};
 use running::opening::opened;
-use running::serving::{Service, served};
+use running::serving::{ServerParts, served};
 use scripting::{STANDARD_INPUT, Script, scripts_at};
+use standard_error::error_log::ErrorLog;
 use standard_error::level::Level;
-use standard_error::telling::Told;
 use std::io;
 use std::marker::Brand;
 use std::net::{Net, SocketAddr, TcpListener, TcpStream};
@@ -55,7 +55,7 @@ where
         + Clock
         + RandomSource
         + Eprint
-        + Shared,
+        + SharedHost,
 {
     let arguments = arguments_of(rt).map_err(CommandFault::Words)?;
     run_called(rt, host, arguments.as_slice())
@@ -79,7 +79,7 @@ where
 {
     let numbers = words.numbers()?;
     let scripts = scripts_at(rt, words.scripts.as_slice())?;
-    let asked = Asked {
+    let asked = Invocation {
         config: words.config,
         numbers: &numbers,
         scripts: scripts.as_slice(),
@@ -91,7 +91,7 @@ where
 
 /// What is asked for, read but for the configuration.
 #[derive(Clone, Copy)]
-struct Asked<'a> {
+struct Invocation<'a> {
     config: &'a str,
     numbers: &'a Numbers,
     scripts: &'a [Script],
@@ -101,7 +101,7 @@ struct Asked<'a> {
     has_input: bool,
 }
 
-fn listen<R>(rt: &HostRuntime, host: &R, asked: &Asked) -> Result<(), Fault>
+fn listen<R>(rt: &HostRuntime, host: &R, asked: &Invocation) -> Result<(), Fault>
 where
     R: Host,
 {
@@ -124,7 +124,7 @@ where
 fn serve_at<R>(
     rt: &HostRuntime,
     host: &R,
-    asked: &Asked,
+    asked: &Invocation,
     listener: &TcpListener,
     page: Option<&TcpListener>,
 ) -> Result<(), Fault>
@@ -134,7 +134,7 @@ where
     let passwords = UserFile::asked(rt, asked.passwords)?;
     let listeners = ListenerHandles::of(rt, listener, page, passwords);
     let listeners = listeners.map_err(Fault::Listen)?;
-    let service = Service {
+    let service = ServerParts {
         listener,
         page,
         listeners: &listeners,
@@ -151,8 +151,8 @@ where
 fn serve_configured<R>(
     rt: &HostRuntime,
     host: &R,
-    asked: &Asked,
-    service: &Service,
+    asked: &Invocation,
+    service: &ServerParts,
 ) -> Result<(), Fault>
 where
     R: Host,
@@ -174,7 +174,7 @@ where
 }
 
 /// Tells that everyone may connect, and not from this machine alone.
-fn warn<R: Wait>(rt: &R, asked: &Asked, told: &Told) {
+fn warn<R: Wait>(rt: &R, asked: &Invocation, told: &ErrorLog) {
     let address = asked.numbers.address;
     if asked.passwords.is_none() && !address.ip().is_loopback() {
         told.line(

@@ -1,7 +1,7 @@
 //! What is told on the standard error.
 
+pub(crate) mod error_log;
 pub(crate) mod level;
 pub(crate) mod questions;
 pub(crate) mod reports;
-pub(crate) mod talk;
-pub(crate) mod telling;
+pub(crate) mod told_clients;

@@ -70,8 +70,8 @@ rest_in (Ok read) = read.1
 rest_in (Err fault) = []
 
 -- what stands after is known
-pub behind_is : (fields behind after : List ℕ) (first other : ℕ × List Value) → insert_at fields ≡ Ok (first, behind) → insert_at fields ≡ Ok (other, after) → behind ≡ after
-behind_is fields behind after first other a b = ap rest_in (sym a ∙ b)
+pub after_is : (fields behind after : List ℕ) (first other : ℕ × List Value) → insert_at fields ≡ Ok (first, behind) → insert_at fields ≡ Ok (other, after) → behind ≡ after
+after_is fields behind after first other a b = ap rest_in (sym a ∙ b)
 
 -- ---- by its tag
 

@@ -31,11 +31,11 @@ use Rattle.publication_config.specs.declared.publication.Publication.{Publicatio
 use Rattle.publication_config.specs.Published.{PublicationSet, has, publishes}
 use Rattle.row_messages.specs.Relations.{relation_column, relation_of, table_as_published, FitsTable}
 use Rattle.publication.specs.Selection.{has_table, list_by, relation, selected_table, whole_table, FitTables}
-use Rattle.row_messages.specs.Tuples.{old_by, old_row_of_update, tuple_behind, tuple_of}
+use Rattle.row_messages.specs.Tuples.{old_by, old_row_of_update, tuple_after, tuple_of}
 use Rattle.row_messages.specs.Messages.{delete_message, insert_message, stands_in, update_message}
 use Rattle.publication.specs.Projection.{is_published, may_be_emptied, message, message_by, message_of_update, only_if, passes, row_as_published, stands, truncate_message, AreValues, MessageFits}
 use Rattle.row_messages.proofs.Choosing.{all_chosen, narrowed_fits, narrowed_stands}
-use Rattle.row_messages.proofs.Rows.{both_true, OldFits, TupleFits, old_fits, replaced_fits, sent_fits, tuple_behind_fits, tuple_fits}
+use Rattle.row_messages.proofs.Rows.{both_true, OldFits, TupleFits, old_fits, replaced_fits, sent_fits, tuple_after_fits, tuple_fits}
 use Rattle.publication.proofs.Relations.{found_table, relation_answer_fits, relation_tells, some_is}
 
 -- ---- a message
@@ -220,8 +220,8 @@ replaced_row_fits s oid old new m all old_values new_values is_old is_new (Some 
     let b = row_as_published s oid new in
     let P : Logical → Type 0 = λ n. MessageFits s n in
     subst P (some_is (update_message a b t) m e)
-    (update_fits s t (old_row_of_update t.identity t a b) (tuple_behind a b) u.found (replaced_fits t t.identity a b u.found.fits (shown_values s oid old old_values) (u.stay old is_old))
-    (tuple_behind_fits t a b u.found.fits (shown_values s oid new new_values) (u.stay old is_old) (u.stay new is_new)))
+    (update_fits s t (old_row_of_update t.identity t a b) (tuple_after a b) u.found (replaced_fits t t.identity a b u.found.fits (shown_values s oid old old_values) (u.stay old is_old))
+    (tuple_after_fits t a b u.found.fits (shown_values s oid new new_values) (u.stay old is_old) (u.stay new is_new)))
 
 deleted_row_fits : (s : PublicationSet) (oid : ℕ) (old : List Value) (m : Logical) → FitTables s → AllByRecursion IsValue old → stands (table_of oid s.tables) old ≡ true → (o : Option Table)
     → selected_table s oid ≡ o → option_and_then (delete_message (row_as_published s oid old)) o ≡ Some m → MessageFits s m

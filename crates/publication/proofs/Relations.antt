@@ -78,7 +78,7 @@ relation_fits t table =
     let told = relation_of t in
     let columns = columns_fit t.identity t.columns table.columns in
     let count : length told.columns ≡ length t.columns = length-map t.columns (relation_column t.identity) in
-    let behind_name = (identity_letter told.identity ∷ []) ++ (int16 (length told.columns) ++ flat_map column told.columns) in
+    let after_name = (identity_letter told.identity ∷ []) ++ (int16 (length told.columns) ++ flat_map column told.columns) in
     record {
       fits = (table.oid, (table.schema, (table.name, (omega (arith, count, table.count), columns.fits))));
       short = omega (
@@ -91,9 +91,9 @@ relation_fits t table =
         name_length t.schema,
         name_length t.name,
         length-int16 (length told.columns),
-        length-append (int32 t.oid) (string t.schema ++ (string t.name ++ behind_name)),
-        length-append (string t.schema) (string t.name ++ behind_name),
-        length-append (string t.name) behind_name,
+        length-append (int32 t.oid) (string t.schema ++ (string t.name ++ after_name)),
+        length-append (string t.schema) (string t.name ++ after_name),
+        length-append (string t.name) after_name,
         length-append (int16 (length told.columns)) (flat_map column told.columns),
       );
     }

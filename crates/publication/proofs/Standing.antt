@@ -35,8 +35,8 @@ use Rattle.publication.specs.Selection.{FitTables}
 use Rattle.pqformat.specs.Writing.{FitsRoom}
 use Rattle.row_messages.specs.Spelling.{HasRoomFor, IsWritten}
 use Rattle.publication.specs.Read.{IsShortRow}
-use Rattle.row_messages.specs.Tuples.{changes_key, key_tuple_of, old_by, old_row_of_update, tuple_behind, tuple_of}
-use Rattle.row_messages.proofs.Bounds.{behind_bound, key_bound, tuple_bound}
+use Rattle.row_messages.specs.Tuples.{changes_key, key_tuple_of, old_by, old_row_of_update, tuple_after, tuple_of}
+use Rattle.row_messages.proofs.Bounds.{after_bound, key_bound, tuple_bound}
 use Rattle.row_messages.proofs.Choosing.{all_chosen, narrowed_shorter}
 use Rattle.publication.proofs.Room.{has_room, less_room}
 use Rattle.publication.proofs.Relations.{found_table}
@@ -178,10 +178,10 @@ module _ (flags : List Bool) (t : Table) (old : List Value) (fits : FitsTable t)
       → FitsRoom 0 out (spell_logical (update_message row (listed_items flags new) seen))
   replacement_room new is_new short_new out room =
       let same : length row ≡ length (listed_items flags new) = alike flags old new (sym (columns_are t old is_old) ∙ columns_are t new is_new) in
-      let bound = behind_bound row (listed_items flags new) same (values_chosen flags t new fits is_new short_new) (few flags t new fits is_new short_new) in
+      let bound = after_bound row (listed_items flags new) same (values_chosen flags t new fits is_new short_new) (few flags t new fits is_new short_new) in
       let told = old_if_any (old_row_of_update t.identity seen row (listed_items flags new)) in
       let first : length told ≤ 1537 + row_length row = if_any _ (replaced t.identity (listed_items flags new)) in
-      let last = tuple (tuple_behind row (listed_items flags new)) in
+      let last = tuple (tuple_after row (listed_items flags new)) in
       let new_shorter = shorter flags t new fits is_new short_new in
       let size = length-append (int32 t.oid) (told ++ ((78 ∷ []) ++ last)) in
       let parts = length-append told ((78 ∷ []) ++ last) in (

@@ -16,7 +16,9 @@ mod selection;
 mod writing;
 
 pub use projection::Projected;
-pub use publication_config::{Member, Misfit, Place, PubFault, TableMember, explained};
+pub use publication_config::{
+    PubFault, PublicationMember, PublicationMisfit, TableMember, TablePlace, explained,
+};
 pub use publications::Publications;
 pub use row_messages::{MAX_MESSAGE_LENGTH, room_for};
 pub use selection::Selection;

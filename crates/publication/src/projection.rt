@@ -1,6 +1,6 @@
 //! The message that a change becomes, and the Relation of a table, as values: what is put, read again.
 
-ghost use Rattle.std.specs.Prelude.{◌≡◌, ◌<◌, ◌^◌, ℕ, IfOk, IfSome, None, false, length, nat_le, option_map, true};
+ghost use Rattle.std.specs.Prelude.{◌≡◌, ◌≤◌, ◌<◌, ◌^◌, ℕ, IfOk, IfSome, None, false, length, nat_le, option_map, true};
 ghost use Rattle.pgoutput.specs.declared.logical.Logical.{Logical as Told};
 ghost use Rattle.pgoutput.specs.declared.logical.Logical.TheVariants as logical;
 ghost use Rattle.pgoutput.specs.Items.{IsShortMessage};
@@ -12,6 +12,7 @@ ghost use Rattle.tables.specs.declared.changes.change_body.TheConstants.{MAX_TRU
 ghost use Rattle.tables.specs.declared.rows.row.TheConstants.{MAX_ROW_LENGTH};
 ghost use Rattle.publication_config.specs.Published.{PublicationSet};
 ghost use Rattle.row_messages.specs.Relations.{relation_of};
+ghost use Rattle.row_messages.specs.Spelling.{room_for};
 ghost use Rattle.publication.specs.Logged.{change_message};
 ghost use Rattle.publication.specs.Projection.{FitsProjected, projection_of};
 ghost use Rattle.publication.specs.Read.{IsShortRow};
@@ -21,9 +22,9 @@ use crate::selection::Selection;
 use crate::writing::logged::fits_log;
 use bytes::BytesMut;
 use pgoutput::{Logical, read_logical};
-use row_messages::MAX_MESSAGE_LENGTH;
+use row_messages::{MAX_MESSAGE_LENGTH, room_for};
 use std::alloc::{AllocError, Global};
-use tables::{Change, MAX_TRUNCATED, MessageRef, Row, write_body};
+use tables::{Change, MAX_TRUNCATED, MessageRef, Row, body_len, write_body};
 
 /// What a change becomes: nothing, where it isn't published, or one message.
 #[derive(Debug, Drop)]
@@ -43,7 +44,7 @@ impl Selection {
         if !is_short(change) {
             return Ok(Projected::Nothing);
         }
-        let mut body = BytesMut::new(self.alloc);
+        let mut body = BytesMut::with_capacity(self.alloc, body_len(change))?;
         write_body(change, &mut body)?;
         self.project_body(position, body.as_slice())
     }
@@ -54,8 +55,23 @@ impl Selection {
             IfOk result (λ p. (p ≡ projection_of (change_message self.now position c))
             × FitsProjected self.now p) }
     {
-        let mut out = [0; MAX_MESSAGE_LENGTH];
-        match self.put(position, body, &mut out) {
+        let mut out = Vec::from_elem(self.alloc, 0, room_for(body.len()))?;
+        self.project_in(position, body, out.as_mut_slice())
+    }
+
+    /// The same, with room for the message.
+    fn project_in(
+        &self,
+        position: u64,
+        body: &[u8],
+        out: &mut [u8],
+    ) -> Result<Projected, AllocError>
+        requires { room_for (length body.now) ≤ length out.old }
+        ensures { (c : Changed) → SpellsBody body.now c →
+            IfOk result (λ p. (p ≡ projection_of (change_message self.now position c))
+            × FitsProjected self.now p) }
+    {
+        match self.put(position, body, out) {
             Some(len) => Ok(Projected::Message(message_in(self.alloc, &out[..len])?)),
             None => Ok(Projected::Nothing),
         }

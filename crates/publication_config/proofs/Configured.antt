@@ -4,14 +4,14 @@ use Rattle.std.specs.Prelude.{option_map}
 use Rattle.toml.specs.Data.{Data}
 use Rattle.tables.specs.declared.table.Table.{Table}
 use Rattle.catalog.specs.Config.{document_of}
-use Rattle.publication_config.specs.declared.document.config_fault.Refusal.{Refusal}
-use Rattle.publication_config.specs.declared.document.config_fault.Refusal.TheVariants as refusals
+use Rattle.publication_config.specs.declared.document.config_fault.ConfigRefusal.{ConfigRefusal}
+use Rattle.publication_config.specs.declared.document.config_fault.ConfigRefusal.TheVariants as refusals
 use Rattle.publication_config.specs.declared.fault.PubFault.{PubFault}
 use Rattle.publication_config.specs.declared.fault.PubFault.TheVariants as faults
 use Rattle.publication_config.specs.Config.{Configures, ReadsPublications, configured_by, fault_of, publications_in}
 use Rattle.publication_config.specs.Published.{PublicationSet}
 
-pub refused_so : (refusal : Refusal) (read : Result PublicationSet PubFault) → read ≡ Err (fault_of refusal) → ReadsPublications (Err (fault_of refusal)) read
+pub refused_so : (refusal : ConfigRefusal) (read : Result PublicationSet PubFault) → read ≡ Err (fault_of refusal) → ReadsPublications (Err (fault_of refusal)) read
 refused_so (refusals.Misfit misfit) read is = is
 refused_so (refusals.BadFilter place fault) read is = is
 refused_so (refusals.NoIdentity place) read is = is

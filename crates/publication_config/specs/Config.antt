@@ -16,16 +16,16 @@ use Rattle.tables.specs.Tables.{table_named}
 use Rattle.conditions.specs.declared.fault.FilterFault.{FilterFault}
 use Rattle.rowfilter.specs.Answers.{read_filter}
 use Rattle.conditions.specs.Conditions.{Condition, names}
-use Rattle.publication_config.specs.declared.document.config_fault.Place.{Place}
-use Rattle.publication_config.specs.declared.document.config_fault.Member.{Member}
-use Rattle.publication_config.specs.declared.document.config_fault.Member.TheVariants as members
+use Rattle.publication_config.specs.declared.document.config_fault.TablePlace.{TablePlace}
+use Rattle.publication_config.specs.declared.document.config_fault.PublicationMember.{PublicationMember}
+use Rattle.publication_config.specs.declared.document.config_fault.PublicationMember.TheVariants as members
 use Rattle.publication_config.specs.declared.document.config_fault.TableMember.{TableMember}
 use Rattle.publication_config.specs.declared.document.config_fault.TableMember.TheVariants as table_members
-use Rattle.publication_config.specs.declared.document.config_fault.Misfit.TheVariants as misfits
-use Rattle.publication_config.specs.declared.document.config_fault.Refusal.{Refusal}
-use Rattle.publication_config.specs.declared.document.config_fault.Refusal.TheVariants as refusals
-use Rattle.publication_config.specs.declared.document.config_fault.Unread.{Unread}
-use Rattle.publication_config.specs.declared.document.config_fault.Unread.TheVariants as unread
+use Rattle.publication_config.specs.declared.document.config_fault.PublicationMisfit.TheVariants as misfits
+use Rattle.publication_config.specs.declared.document.config_fault.ConfigRefusal.{ConfigRefusal}
+use Rattle.publication_config.specs.declared.document.config_fault.ConfigRefusal.TheVariants as refusals
+use Rattle.publication_config.specs.declared.document.config_fault.UnreadPublication.{UnreadPublication}
+use Rattle.publication_config.specs.declared.document.config_fault.UnreadPublication.TheVariants as unread
 use Rattle.publication_config.specs.declared.document.config_publication.Reach.{Reach as Found}
 use Rattle.publication_config.specs.declared.document.config_publication.Reach.TheVariants as founds
 use Rattle.publication_config.specs.declared.fault.PubFault.{PubFault}
@@ -38,7 +38,7 @@ use Rattle.publication_config.specs.declared.published_table.PublishedTable.{Pub
 use Rattle.publication_config.specs.Published.{PublicationSet, all_operations, is_identity, is_listed, published_whole, with_operation}
 
 -- what reading a part of a configuration answers, memory apart
-abbrev pub Reads : {X : Type 0} → Result X Unread → Result X Refusal → Type 0
+abbrev pub Reads : {X : Type 0} → Result X UnreadPublication → Result X ConfigRefusal → Type 0
 Reads (Ok x) read = read ≡ Ok x
 Reads (Err (unread.Refused refusal)) read = read ≡ Err refusal
 Reads (Err unread.Memory) read = Unit {0}
@@ -60,14 +60,14 @@ unfoldable pub operation_in : Data → Option Operation
 operation_in d = and_then (as_str d) operation_of
 
 -- a repeated word counts once
-abbrev pub operations_behind : Operations → Items → Option Operations
-operations_behind operations no_items = Some operations
-operations_behind operations (item d ds) = and_then (operation_in d) (λ operation. operations_behind (with_operation operations operation) ds)
+abbrev pub operations_after : Operations → Items → Option Operations
+operations_after operations no_items = Some operations
+operations_after operations (item d ds) = and_then (operation_in d) (λ operation. operations_after (with_operation operations operation) ds)
 
 -- all operations, where none are named
 unfoldable pub operations_in : Option Data → Option Operations
 operations_in None = Some all_operations
-operations_in (Some d) = and_then (as_array d) (operations_behind no_operations)
+operations_in (Some d) = and_then (as_array d) (operations_after no_operations)
 
 -- ---- what the identity of a table asks
 
@@ -97,7 +97,7 @@ is_nothing identities.Nothing = true
 is_nothing other = false
 
 -- why a table may not be published: subscribers could not find its rows by what is sent of them; the flag says that there is a column list
-abbrev pub identity_fault : Place → Operations → Table → Bool → PublishedTable → Option Refusal
+abbrev pub identity_fault : TablePlace → Operations → Table → Bool → PublishedTable → Option ConfigRefusal
 identity_fault place operations table has_list published =
     if not (operations.update || operations.delete) then None
     else if is_nothing table.identity then Some (refusals.NoIdentity place)
@@ -105,11 +105,11 @@ identity_fault place operations table has_list published =
     else if filter_leaves_identity table published.filter then Some (refusals.FilterOutsideIdentity place)
     else None
 
-abbrev pub unless_fault : PublishedTable → Option Refusal → Result PublishedTable Refusal
+abbrev pub unless_fault : PublishedTable → Option ConfigRefusal → Result PublishedTable ConfigRefusal
 unless_fault published None = Ok published
 unless_fault published (Some refusal) = Err refusal
 
-unfoldable pub judged_table : Place → Operations → Table → Bool → PublishedTable → Result PublishedTable Refusal
+unfoldable pub judged_table : TablePlace → Operations → Table → Bool → PublishedTable → Result PublishedTable ConfigRefusal
 judged_table place operations table has_list published = unless_fault published (identity_fault place operations table has_list published)
 
 -- ---- a table of a publication
@@ -143,15 +143,15 @@ listed_in table (Some d) = and_then (names_in d) (listed_if table)
 abbrev pub count_if : Bool → ℕ
 count_if there = if there then 1 else 0
 
-abbrev pub filter_read : Place → Result Condition FilterFault → Result (Option Condition) Refusal
+abbrev pub filter_read : TablePlace → Result Condition FilterFault → Result (Option Condition) ConfigRefusal
 filter_read place (Ok condition) = Ok (Some condition)
 filter_read place (Err fault) = Err (refusals.BadFilter place fault)
 
-abbrev pub filter_in : Place → Table → Option (List ℕ) → Result (Option Condition) Refusal
+abbrev pub filter_in : TablePlace → Table → Option (List ℕ) → Result (Option Condition) ConfigRefusal
 filter_in place table None = Ok None
 filter_in place table (Some text) = filter_read place (read_filter table text)
 
-abbrev pub wrong_member : Place → TableMember → Refusal
+abbrev pub wrong_member : TablePlace → TableMember → ConfigRefusal
 wrong_member place which = refusals.Misfit (misfits.Table place which)
 
 -- there are others than a name, and a text and columns where those are there
@@ -159,12 +159,12 @@ abbrev pub has_more : Data → Bool
 has_more d = is_more_than (1 + count_if (is_some (get (codes "where") d)) + count_if (is_some (get (codes "columns") d))) (as_table d)
 
 -- the columns, and then whether there are others
-unfoldable pub columns_in : Place → Table → Data → Result (List Bool) Refusal
+unfoldable pub columns_in : TablePlace → Table → Data → Result (List Bool) ConfigRefusal
 columns_in place table d = do
   listed ← ok_or (listed_in table (get (codes "columns") d)) (wrong_member place table_members.Columns)
   if has_more d then Err (wrong_member place table_members.Other) else Ok listed
 
-unfoldable pub published_in : Place → Operations → List Table → List PublishedTable → Data → Result PublishedTable Refusal
+unfoldable pub published_in : TablePlace → Operations → List Table → List PublishedTable → Data → Result PublishedTable ConfigRefusal
 published_in place operations tables before d = do
   table ← ok_or (table_in tables before d) (wrong_member place table_members.Name)
   text ← ok_or (text_in (get (codes "where") d)) (wrong_member place table_members.Where)
@@ -173,18 +173,18 @@ published_in place operations tables before d = do
   judged_table place operations table (is_some (get (codes "columns") d)) (record { oid = table.oid; filter = condition; listed = listed })
 
 -- the tables of a list, in its order
-abbrev pub published_behind : ℕ → Operations → List Table → List PublishedTable → Items → Result (List PublishedTable) Refusal
+abbrev pub published_behind : ℕ → Operations → List Table → List PublishedTable → Items → Result (List PublishedTable) ConfigRefusal
 published_behind number operations tables published no_items = Ok published
 published_behind number operations tables published (item d ds) =
     published_in (record { publication = number; table = length published + 1 }) operations tables published d
     >>= λ t. published_behind number operations tables (published ++ t ∷ []) ds
 
 -- these tables as a whole
-abbrev pub whole_behind : ℕ → Operations → List PublishedTable → List Table → Result (List PublishedTable) Refusal
-whole_behind number operations published [] = Ok published
-whole_behind number operations published (table ∷ tables) =
+abbrev pub whole_after : ℕ → Operations → List PublishedTable → List Table → Result (List PublishedTable) ConfigRefusal
+whole_after number operations published [] = Ok published
+whole_after number operations published (table ∷ tables) =
     judged_table (record { publication = number; table = length published + 1 }) operations table false (published_whole table)
-    >>= λ t. whole_behind number operations (published ++ t ∷ []) tables
+    >>= λ t. whole_after number operations (published ++ t ∷ []) tables
 
 -- ---- a publication
 
@@ -200,7 +200,7 @@ has_whole (Listed ds) t = false
 has_whole (OfSchemas schemas) t = list_any (bytes_eq t.schema) schemas
 has_whole All t = true
 
-abbrev pub wrong : ℕ → Member → Refusal
+abbrev pub wrong : ℕ → PublicationMember → ConfigRefusal
 wrong number which = refusals.Misfit (misfits.Publication number which)
 
 -- a list that isn't empty
@@ -228,13 +228,13 @@ unfoldable pub all_in : Data → Option Reach
 all_in d = and_then (as_bool d) all_if
 
 -- Exactly one of tables, schemas and all_tables is there.
-abbrev pub reach_of : ℕ → List Table → Option Data → Option Data → Option Data → Result Reach Refusal
+abbrev pub reach_of : ℕ → List Table → Option Data → Option Data → Option Data → Result Reach ConfigRefusal
 reach_of number tables (Some d) None None = ok_or (list_in d) (wrong number members.Tables)
 reach_of number tables None (Some d) None = ok_or (schemas_in tables d) (wrong number members.Schemas)
 reach_of number tables None None (Some d) = ok_or (all_in d) (wrong number members.AllTables)
 reach_of number tables _ _ _ = Err (wrong number members.OneOfThree)
 
-unfoldable pub reach_in : ℕ → List Table → Data → Result Reach Refusal
+unfoldable pub reach_in : ℕ → List Table → Data → Result Reach ConfigRefusal
 reach_in number tables d = reach_of number tables (get (codes "tables") d) (get (codes "schemas") d) (get (codes "all_tables") d)
 
 -- what the code's reach stands for, and what reading one answers, memory apart
@@ -243,14 +243,14 @@ seen_reach (founds.Listed values) = Listed (items_view values.now)
 seen_reach (founds.OfSchemas schemas) = OfSchemas schemas
 seen_reach founds.All = All
 
-abbrev pub ReadsReach : Result Found Unread → Result Reach Refusal → Type 0
+abbrev pub ReadsReach : Result Found UnreadPublication → Result Reach ConfigRefusal → Type 0
 ReadsReach (Ok reach) read = read ≡ Ok (seen_reach reach)
 ReadsReach (Err (unread.Refused refusal)) read = read ≡ Err refusal
 ReadsReach (Err unread.Memory) read = Unit {0}
 
-abbrev pub published_by : ℕ → Operations → List Table → Reach → Result (List PublishedTable) Refusal
+abbrev pub published_by : ℕ → Operations → List Table → Reach → Result (List PublishedTable) ConfigRefusal
 published_by number operations tables (Listed ds) = published_behind number operations tables [] ds
-published_by number operations tables reach = whole_behind number operations [] (filter (has_whole reach) tables)
+published_by number operations tables reach = whole_after number operations [] (filter (has_whole reach) tables)
 
 abbrev pub unless_taken : List Publication → List ℕ → Option (List ℕ)
 unless_taken publications name = if list_any (λ p. bytes_eq p.name name) publications then None else Some name
@@ -264,12 +264,12 @@ abbrev pub has_others : Data → Bool
 has_others d = is_more_than (2 + count_if (is_some (get (codes "publish") d))) (as_table d)
 
 -- what it is of, then whether there are others, and then its tables
-unfoldable pub tables_in : ℕ → Operations → List Table → Data → Result (List PublishedTable) Refusal
+unfoldable pub tables_in : ℕ → Operations → List Table → Data → Result (List PublishedTable) ConfigRefusal
 tables_in number operations tables d = do
   reach ← reach_in number tables d
   if has_others d then Err (wrong number members.Other) else published_by number operations tables reach
 
-unfoldable pub publication_in : ℕ → List Table → List Publication → Data → Result Publication Refusal
+unfoldable pub publication_in : ℕ → List Table → List Publication → Data → Result Publication ConfigRefusal
 publication_in number tables before d = do
   name ← ok_or (name_of before d) (wrong number members.Name)
   operations ← ok_or (operations_in (get (codes "publish") d)) (wrong number members.Publish)
@@ -277,26 +277,26 @@ publication_in number tables before d = do
   Ok (record { name = name; operations = operations; tables = published })
 
 -- the publications of a list, in its order
-abbrev pub publications_behind : List Table → List Publication → Items → Result (List Publication) Refusal
-publications_behind tables before no_items = Ok before
-publications_behind tables before (item d ds) =
-    publication_in (length before + 1) tables before d >>= λ p. publications_behind tables (before ++ p ∷ []) ds
+abbrev pub publications_after : List Table → List Publication → Items → Result (List Publication) ConfigRefusal
+publications_after tables before no_items = Ok before
+publications_after tables before (item d ds) =
+    publication_in (length before + 1) tables before d >>= λ p. publications_after tables (before ++ p ∷ []) ds
 
-abbrev pub publications_of : List Table → Option Data → Result (List Publication) Refusal
+abbrev pub publications_of : List Table → Option Data → Result (List Publication) ConfigRefusal
 publications_of tables None = Ok []
-publications_of tables (Some d) = ok_or (as_array d) (refusals.Misfit misfits.NoList) >>= λ ds. publications_behind tables [] ds
+publications_of tables (Some d) = ok_or (as_array d) (refusals.Misfit misfits.NoList) >>= λ ds. publications_after tables [] ds
 
 -- ---- a whole text
 
 -- the code of a refusal
-abbrev pub fault_of : Refusal → PubFault
+abbrev pub fault_of : ConfigRefusal → PubFault
 fault_of (refusals.Misfit misfit) = faults.BadToml misfit
 fault_of (refusals.BadFilter place fault) = faults.BadFilter place fault
 fault_of (refusals.NoIdentity place) = faults.NoIdentity place
 fault_of (refusals.ListWithoutIdentity place) = faults.ListWithoutIdentity place
 fault_of (refusals.FilterOutsideIdentity place) = faults.FilterOutsideIdentity place
 
-abbrev pub over : List Table → Result (List Publication) Refusal → Result PublicationSet PubFault
+abbrev pub over : List Table → Result (List Publication) ConfigRefusal → Result PublicationSet PubFault
 over tables (Ok publications) = Ok (record { tables = tables; publications = publications; messages = false })
 over tables (Err refusal) = Err (fault_of refusal)
 

@@ -4,7 +4,7 @@ ghost use Rattle.std.specs.Prelude.{◌≡◌};
 ghost use Rattle.publication_config.specs.declared.fault.PubFault.TheVariants.{Memory};
 ghost use Rattle.publication_config.specs.Faults.{publication_code_of};
 
-use crate::document::config_fault::{Misfit, Place};
+use crate::document::config_fault::{PublicationMisfit, TablePlace};
 use rowfilter::FilterFault;
 use std::alloc::{AllocError, AllocFailed};
 use thiserror::Error;
@@ -17,19 +17,19 @@ pub enum PubFault {
     #[error("P2: the publications have different column lists for one table")]
     ListConflict,
     #[error("P3: {0}: the filter names a column outside the identity, and updates or deletes are published")]
-    FilterOutsideIdentity(Place),
+    FilterOutsideIdentity(TablePlace),
     #[error("P4: {0}: the columns lack one of the identity, or it has all, and updates or deletes are published")]
-    ListWithoutIdentity(Place),
+    ListWithoutIdentity(TablePlace),
     #[error("P5: {0}: the table has no identity, and updates or deletes are published")]
-    NoIdentity(Place),
+    NoIdentity(TablePlace),
     #[error("P6: line {0} is no TOML")]
     NotToml(usize),
     #[error("P6: {0}")]
-    BadToml(Misfit),
+    BadToml(PublicationMisfit),
     #[error("P7: out of memory")]
     Memory,
     #[error("P8: {0}: {1}")]
-    BadFilter(Place, FilterFault),
+    BadFilter(TablePlace, FilterFault),
 }
 
 impl PubFault {

@@ -17,7 +17,7 @@ mod publication;
 mod published_table;
 
 pub use document::config::{configured_by, publications_in};
-pub use document::config_fault::{Member, Misfit, Place, TableMember};
+pub use document::config_fault::{PublicationMember, PublicationMisfit, TableMember, TablePlace};
 pub use document::explaining::explained;
 pub use fault::PubFault;
 pub use identity::is_in_identity;

@@ -1,6 +1,6 @@
 //! The words of the command line.
 
-use crate::simulation::Form;
+use crate::simulation::ReportForm;
 use clap::ArgMatches;
 use command_line::{CommandLine, Word, WordForm, WordsFault, help_text};
 use std::alloc::Global;
@@ -64,7 +64,7 @@ or memory runs out."
 pub struct Words<'a> {
     pub config: &'a str,
     pub schedule: &'a str,
-    pub form: Form,
+    pub form: ReportForm,
 }
 
 /// The words.
@@ -104,8 +104,8 @@ pub fn words_of<'a>(alloc: Global, given: &'a [String]) -> Result<Words<'a>, Wor
 /// All but --render are required, so they are there.
 fn words_in<'a>(matches: &ArgMatches<'a>) -> Words<'a> {
     let form = match matches.get_flag("render") {
-        true => Form::Text,
-        false => Form::Digits,
+        true => ReportForm::Text,
+        false => ReportForm::Digits,
     };
     Words {
         form,

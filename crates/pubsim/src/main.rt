@@ -17,7 +17,7 @@ use command::{Words, words_of};
 use command_line::{arguments_of, ended};
 use configuration::{Config, config_at};
 use fault::Fault;
-use simulation::{Form, simulate};
+use simulation::{ReportForm, simulate};
 use std::io::{BufWriter, Read};
 use std::process::ExitCode;
 use std::sync::Wait;
@@ -53,7 +53,7 @@ fn run_schedule<R: Wait, I: Read>(
     rt: &HostRuntime,
     waits: &R,
     config: Config,
-    form: Form,
+    form: ReportForm,
     schedule: &mut I,
 ) -> Result<(), Fault> {
     let alloc = rt.alloc();

@@ -6,11 +6,8 @@ ghost use Rattle.pubsim.specs.Simulation.{is_bad_schedule, is_writing};
 
 use crate::rendering::write_rendered;
 use configuration::Config;
-use schedule::{
-    BadEvent, LineFault, Schedule, WorldFault, write_answers, write_slot, write_stream,
-    write_subscriber,
-};
-use shared_log::{LogName, Opened};
+use schedule::{BadEvent, Schedule, ScheduleFault, WorldFault};
+use shared_log::{EmptyHistory, LogName};
 use slots::{OpenedSlots, SlotName};
 use std::alloc::Global;
 use std::io;
@@ -18,11 +15,13 @@ use std::io::{Read, Write};
 use std::marker::Brand;
 use std::sync::Wait;
 use thiserror::Error;
-use world::{RunFault, Subscriber, World};
+use world::{
+    RunFault, Subscriber, World, write_answers, write_slot, write_stream, write_subscriber,
+};
 
 /// How what a sender produced is written: its bytes in hexadecimal, or a line for each frame.
 #[derive(Clone, Copy, PartialEq, Eq)]
-pub enum Form {
+pub enum ReportForm {
     Digits,
     Text,
 }
@@ -35,7 +34,7 @@ pub enum SimFault {
     #[error("the schedule is not UTF-8")]
     NotUtf8,
     #[error("{0}")]
-    Line(LineFault),
+    Line(ScheduleFault),
     #[error("{0}")]
     Event(BadEvent),
     #[error("out of memory")]
@@ -66,7 +65,7 @@ pub fn simulate<R: Wait, I: Read, W: Write>(
     rt: &R,
     alloc: Global,
     config: Config,
-    form: Form,
+    form: ReportForm,
     input: &mut I,
     output: &mut W,
 ) -> Result<(), SimFault>
@@ -78,7 +77,7 @@ pub fn simulate<R: Wait, I: Read, W: Write>(
     report_run::<Brand, R, W>(
         rt,
         alloc,
-        Opened::new(),
+        EmptyHistory::new(),
         slots,
         config,
         schedule,
@@ -91,11 +90,11 @@ pub fn simulate<R: Wait, I: Read, W: Write>(
 fn report_run<L: LogName + SlotName, R: Wait, W: Write>(
     rt: &R,
     alloc: Global,
-    history: Opened,
+    history: EmptyHistory,
     slots: OpenedSlots,
     config: Config,
     schedule: Schedule,
-    form: Form,
+    form: ReportForm,
     output: &mut W,
 ) -> Result<(), SimFault>
     requires log { history.seen.book ≡ L.book }
@@ -145,21 +144,42 @@ fn write_report<L: LogName + SlotName, W: Write>(
     alloc: Global,
     output: &mut W,
     schedule: &Schedule,
-    form: Form,
+    form: ReportForm,
     world: &World<L>,
 ) -> io::Result<()> {
     write_answers(output, schedule.lines(), world.answers())?;
-    for start in world.starts() {
-        match form {
-            Form::Digits => write_stream(alloc, output, start.connection(), start.produced())?,
-            Form::Text => write_rendered(alloc, output, start.connection(), start.produced())?,
-        }
-    }
+    write_streams(alloc, output, form, world)?;
     for slot in world.slots() {
         write_slot(alloc, output, slot.name(), slot.confirmed())?;
     }
     write_subscribers(alloc, output, world.subscribers())?;
     output.flush()
+}
+
+/// What each start of a sender produced.
+fn write_streams<L: LogName + SlotName, W: Write>(
+    alloc: Global,
+    output: &mut W,
+    form: ReportForm,
+    world: &World<L>,
+) -> io::Result<()> {
+    for start in world.starts() {
+        match form {
+            ReportForm::Digits => write_stream(
+                alloc,
+                output,
+                start.connection(),
+                start.produced(),
+            )?,
+            ReportForm::Text => write_rendered(
+                alloc,
+                output,
+                start.connection(),
+                start.produced(),
+            )?,
+        }
+    }
+    Ok(())
 }
 
 /// Those of the subscribers to which ever a byte was delivered.

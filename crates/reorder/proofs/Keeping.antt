@@ -16,7 +16,7 @@ use Rattle.reorder.specs.Bookkeeping.{IsStrand, IsTransaction, AreStrandsOf, cha
 use Rattle.reorder.specs.Taking.{StartsBehind}
 use Rattle.reorder.proofs.Named.{or_left, or_right, or_true, entries_before}
 use Rattle.reorder.proofs.Opening.{put_cases}
-use Rattle.reorder.proofs.Ordering.{in_reversed, one_of, ordered_back, stands_behind}
+use Rattle.reorder.proofs.Ordering.{in_reversed, one_of, ordered_back, stands_after}
 
 pub some_of : {A B : Type 0} (f : A → B) (o : Option A) → IsSome o → IsSome (option_map f o)
 some_of f None some = some
@@ -149,7 +149,7 @@ below_is l rs x q s h is above =
     let top : last_of x (above_of l x) ≡ last_of q s.above = top_above l rs x h (w.strands x inn) ∙ w.tops x inn in
     let back : back_from_last l x ≡ reverse o.members = ap (λ t. reverse (all_in (l.members t))) top ∙ ap (λ m. reverse (all_in m)) o.members_are in
     ap (λ ys. is_in q (behind x ys)) back
-    ∙ stands_behind l x q (reverse o.members) w.ordered (in_reversed q o.members ∙ o.within.0) (ap (λ v. is_in x (above_in v)) is ∙ above)
+    ∙ stands_after l x q (reverse o.members) w.ordered (in_reversed q o.members ∙ o.within.0) (ap (λ v. is_in x (above_in v)) is ∙ above)
 
 pub nothing_left : {A : Type 0} (b : Bool) (es : List A) → es ≡ [] → cond b [] es ≡ []
 nothing_left true es none = refl

@@ -21,9 +21,9 @@ at_position p e = p == e.position
 tied : (a b : ℕ) → (not (is_lt (nat_cmp a b)) && not (is_lt (nat_cmp b a))) ≡ (a == b)
 tied a b = grind (arith, nat_tests)
 
-none_behind : (p : ℕ) (r : Entry → Bool) (es : List Entry) → AllByRecursion (λ e. p < e.position) es → filter (at_position p) (filter r es) ≡ []
-none_behind p r [] all = refl
-none_behind p r (e ∷ es) all = by_test (r e) (none_behind p r es all.1)
+none_after : (p : ℕ) (r : Entry → Bool) (es : List Entry) → AllByRecursion (λ e. p < e.position) es → filter (at_position p) (filter r es) ≡ []
+none_after p r [] all = refl
+none_after p r (e ∷ es) all = by_test (r e) (none_after p r es all.1)
   where
     other : (p == e.position) ≡ false
     other = ne_eqb p e.position (λ same. let lt : p < e.position = all.0 in absurd (omega (arith, lt, same)))
@@ -39,7 +39,7 @@ either_at p q r apart [] rising = refl
 either_at p q r apart (e ∷ es) rising = by_tests (p == e.position) (q e) (r e) refl refl refl (either_at p q r apart es rising.1)
   where
     later : (p == e.position) ≡ true → (s : Entry → Bool) → filter (at_position p) (filter s es) ≡ []
-    later here s = none_behind p s es (subst (λ (n : ℕ). AllByRecursion (λ f. n < f.position) es) (sym (eqb-true p e.position here)) rising.0)
+    later here s = none_after p s es (subst (λ (n : ℕ). AllByRecursion (λ f. n < f.position) es) (sym (eqb-true p e.position here)) rising.0)
 
     by_tests : (here b c : Bool) → (p == e.position) ≡ here → q e ≡ b → r e ≡ c →
         filter (at_position p) (filter q es) ++ filter (at_position p) (filter r es) ≡ filter (at_position p) (filter (λ f. q f || r f) es) →

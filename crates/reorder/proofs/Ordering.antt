@@ -42,11 +42,11 @@ above_inside l x q (y ∷ ys) o inn above =
     or_true (x == y) (is_in x ys) (by_first q y ys (is_in x ys ≡ true) inn (above_first l x q y ys o.1 above) (λ later. above_inside l x q ys o.2 later above))
 
 -- what is under one of them stands after it
-pub stands_behind : (l : ByXid) (x q : ℕ) (ys : List ℕ) → AreOrdered l ys → is_in q ys ≡ true → is_in x (above_of l q) ≡ true → is_in q (behind x ys) ≡ true
-stands_behind l x q [] o inn above = inn
-stands_behind l x q (y ∷ ys) o inn above =
+pub stands_after : (l : ByXid) (x q : ℕ) (ys : List ℕ) → AreOrdered l ys → is_in q ys ≡ true → is_in x (above_of l q) ≡ true → is_in q (behind x ys) ≡ true
+stands_after l x q [] o inn above = inn
+stands_after l x q (y ∷ ys) o inn above =
     by_test (y == x) refl (by_first q y ys (is_in x ys ≡ true) inn (above_first l x q y ys o.1 above) (λ later. above_inside l x q ys o.2 later above))
-    (by_first q y ys (((q == y) || is_in q (behind x ys)) ≡ true) inn (λ same. rw (eq-eqb q y same) refl) (λ later. or_true (q == y) (is_in q (behind x ys)) (stands_behind l x q ys o.2 later above)))
+    (by_first q y ys (((q == y) || is_in q (behind x ys)) ≡ true) inn (λ same. rw (eq-eqb q y same) refl) (λ later. or_true (q == y) (is_in q (behind x ys)) (stands_after l x q ys o.2 later above)))
   where
     by_test : (b : Bool) → (y == x) ≡ b → is_in x ys ≡ true → ((q == y) || is_in q (behind x ys)) ≡ true → is_in q (cond b [] (y ∷ behind x ys)) ≡ true
     by_test true same again found = let never : true ≡ false = sym again ∙ ap (λ z. is_in z ys) (sym (eqb-true y x same)) ∙ o.0 in cc

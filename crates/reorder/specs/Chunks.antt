@@ -12,8 +12,8 @@ use Rattle.reorder.specs.Pool.{HoldEntries, IsPool, PoolState, entries_at, stran
 use Rattle.reorder.specs.Ready.{ReadyState}
 use Rattle.reorder.specs.Strands.{StrandsState, is_in}
 use Rattle.reorder.specs.Bookkeeping.{changes_of}
-use Rattle.reorder.specs.declared.ready.Step.{Step}
-use Rattle.reorder.specs.declared.ready.Step.TheVariants as steps
+use Rattle.reorder.specs.declared.ready.RecordOutcome.{RecordOutcome}
+use Rattle.reorder.specs.declared.ready.RecordOutcome.TheVariants as steps
 
 -- THE CHUNKS THAT ARE DUE
 
@@ -92,6 +92,6 @@ pub record LeavesNoRoom (count : ℕ) (rs : List Record) (r : Record) : Type 0 w
   pub room : nat_le ((filled (map entry_length (changes_of rs xid))).1 + ((8 + body_length change) + 4)) 16384 ≡ false
 
 -- what is held, with what is ready
-abbrev pub held_with : List ReadyState → Step → List ReadyState
+abbrev pub held_with : List ReadyState → RecordOutcome → List ReadyState
 held_with held steps.Quiet = held
 held_with held (steps.Ready ready) = ready ∷ held

@@ -9,8 +9,8 @@ use Rattle.reorder.specs.Ready.{IsReadyIn, ReadyState, ready_entries}
 use Rattle.reorder.specs.Strands.{StrandsState}
 use Rattle.reorder.specs.Chunks.{LeavesNoRoom, transaction_chunks}
 use Rattle.reorder.specs.Taking.{ReorderState}
-use Rattle.reorder.specs.declared.ready.Step.{Step}
-use Rattle.reorder.specs.declared.ready.Step.TheVariants as steps
+use Rattle.reorder.specs.declared.ready.RecordOutcome.{RecordOutcome}
+use Rattle.reorder.specs.declared.ready.RecordOutcome.TheVariants as steps
 
 -- the first chunk of a strand that has one
 abbrev pub head_in : Option (Option ℕ) → List ℕ
@@ -63,7 +63,7 @@ abbrev pub lent_chunks : ReorderState → List ReadyState → ℕ
 lent_chunks s ws = sum_by (λ ready. ready_chunks s.strands.pool.arena ready) ws
 
 -- what a record makes ready takes the chunks that its changes fill
-abbrev pub FillsReady : ReorderState → Step → Type 0
+abbrev pub FillsReady : ReorderState → RecordOutcome → Type 0
 FillsReady s steps.Quiet = Unit {0}
 FillsReady s (steps.Ready ready) = ready_chunks s.strands.pool.arena ready ≡ transaction_chunks (ready_entries s.strands.pool ready)
 

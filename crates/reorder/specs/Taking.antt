@@ -11,8 +11,8 @@ use Rattle.reorder.specs.Pool.{AreApart}
 use Rattle.reorder.specs.Ready.{IsReadyIn, ReadyState, ready_entries}
 use Rattle.reorder.specs.Strands.{IsSame, StrandsState, by_xid, changes_by_xid}
 use Rattle.reorder.specs.Bookkeeping.{IsBookkeeping}
-use Rattle.reorder.specs.declared.ready.Step.{Step}
-use Rattle.reorder.specs.declared.ready.Step.TheVariants as steps
+use Rattle.reorder.specs.declared.ready.RecordOutcome.{RecordOutcome}
+use Rattle.reorder.specs.declared.ready.RecordOutcome.TheVariants as steps
 
 -- what a regrouping is between two records
 pub record ReorderState : Type 0 where
@@ -44,7 +44,7 @@ abbrev pub promised_changes : List Record → Body → Option (List Entry)
 promised_changes before (Commit xid time) = Some (kept_changes before xid)
 promised_changes before _ = None
 
-abbrev pub readied_changes : ReorderState → Step → Option (List Entry)
+abbrev pub readied_changes : ReorderState → RecordOutcome → Option (List Entry)
 readied_changes s steps.Quiet = None
 readied_changes s (steps.Ready ready) = Some (ready_entries s.strands.pool ready)
 
@@ -52,12 +52,12 @@ readied_changes s (steps.Ready ready) = Some (ready_entries s.strands.pool ready
 abbrev pub IsHeld : ReorderState → ReadyState → Type 0
 IsHeld s ready = IsReadyIn s.strands.pool ready
 
-abbrev pub IsStepHeld : ReorderState → Step → Type 0
+abbrev pub IsStepHeld : ReorderState → RecordOutcome → Type 0
 IsStepHeld s steps.Quiet = Unit {0}
 IsStepHeld s (steps.Ready ready) = IsHeld s ready
 
 -- what a record makes ready has none of these strands
-abbrev pub IsStepApart : Step → List (ℕ × Option ℕ) → Type 0
+abbrev pub IsStepApart : RecordOutcome → List (ℕ × Option ℕ) → Type 0
 IsStepApart steps.Quiet lent = Unit {0}
 IsStepApart (steps.Ready ready) lent = AreApart ready.strands lent
 

@@ -1,6 +1,6 @@
 //! Changes regrouped by transaction: what a log interleaves, a subscriber gets whole at each commit.
 //!
-//! `Reorder::take` takes records in the order of the log. `Step::Ready` comes with a Commit: the changes of its transaction,
+//! `Reorder::take` takes records in the order of the log. `RecordOutcome::Ready` comes with a Commit: the changes of its transaction,
 //! with those of its subtransactions, and without what was rolled back. They lie in an arena until they are given back
 //! (`CommittedChanges`).
 //!
@@ -12,9 +12,9 @@ mod fault;
 mod places;
 mod ready;
 mod reorder;
-mod strand;
 mod strands;
+mod subxact_ancestors;
 
 pub use fault::ReorderFault;
-pub use ready::{CommittedChanges, Step};
+pub use ready::{CommittedChanges, RecordOutcome};
 pub use reorder::Reorder;

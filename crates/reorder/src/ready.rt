@@ -4,9 +4,9 @@ ghost use Rattle.std.specs.Prelude.{◌≡◌, ◌<◌, Some, length, slice_get}
 ghost use Rattle.reorder.specs.Lents.{strands_in};
 ghost use Rattle.reorder.specs.Orders.{places_in};
 
+use crate::places::change_order::ChangeOrder;
 use crate::places::lent::Lent;
 use crate::places::members::Members;
-use crate::places::order::Order;
 use crate::places::place::Place;
 use std::marker::Model;
 
@@ -17,7 +17,7 @@ pub struct CommittedChanges {
     members: Members,
     /// The strands of those that have changes.
     strands: Lent,
-    order: Order,
+    order: ChangeOrder,
     /// The chunk of the arena in which the last of them was found.
     near: usize,
 }
@@ -65,7 +65,7 @@ impl CommittedChanges {
         &self.strands
     }
 
-    pub(crate) fn new(members: Members, strands: Lent, order: Order) -> CommittedChanges
+    pub(crate) fn new(members: Members, strands: Lent, order: ChangeOrder) -> CommittedChanges
         ensures { result
             ≡ record {
               xids = members;
@@ -95,7 +95,7 @@ impl CommittedChanges {
 }
 
 /// What a record brings.
-pub enum Step {
+pub enum RecordOutcome {
     /// Nothing to publish yet: the record is no Commit.
     Quiet,
     /// A transaction committed, with these changes.

@@ -11,7 +11,7 @@ ghost use Rattle.reorder.specs.Taking.{HasTaken, IsHeld, IsStepApart, IsStepHeld
 
 use crate::fault::ReorderFault;
 use crate::places::entry::{body_of, entry_len, position_of, write_entry};
-use crate::ready::{CommittedChanges, Step};
+use crate::ready::{CommittedChanges, RecordOutcome};
 use crate::strands::Strands;
 use bytes::BytesMut;
 use chgarena::Arena;
@@ -21,9 +21,9 @@ use wal::{Body, Record};
 
 /// The changes of the transactions in progress, by the xids that made them, in an arena.
 ///
-/// Records go in one by one and in log order, each by `take`. `Step::Quiet` means that nothing of a transaction is to be published yet;
+/// Records go in one by one and in log order, each by `take`. `RecordOutcome::Quiet` means that nothing of a transaction is to be published yet;
 /// a note is quiet too, and takes no room.
-/// `Step::Ready` comes with a commit: `entry` lends its changes one by one, and `finish` takes the `CommittedChanges` back. Several may be in
+/// `RecordOutcome::Ready` comes with a commit: `entry` lends its changes one by one, and `finish` takes the `CommittedChanges` back. Several may be in
 /// being while more records are taken.
 ///
 /// The first record may be any record of a log. Of a transaction in progress there only the changes from this record on are
@@ -78,7 +78,7 @@ impl Reorder {
 
     /// Takes the next record of a log, and answers what it makes ready. A change for which the arena has no room is `Full`
     /// (Q1), and where other memory is refused it is `Memory` (Q2). After either, each record is `Failed` (Q3).
-    pub fn take(&mut self, next: &Record) -> Result<Step, ReorderFault>
+    pub fn take(&mut self, next: &Record) -> Result<RecordOutcome, ReorderFault>
         ensures ok { IfOk result
             (λ step. Takes self.old self.new next.now (readied_changes self.new step)) }
         ensures held { IfOk result (λ step. IsStepHeld self.new step) }
@@ -127,7 +127,7 @@ impl Reorder {
     }
 
     /// What the record does to the strands, and what it makes ready of them.
-    fn regroup(&mut self, next: &Record) -> Result<Step, ReorderFault>
+    fn regroup(&mut self, next: &Record) -> Result<RecordOutcome, ReorderFault>
         ensures takes { IfOk result
             (λ step. Takes self.old self.new next.now (readied_changes self.new step)) }
         ensures held { IfOk result (λ step. IsStepHeld self.new step) }
@@ -177,9 +177,9 @@ impl Reorder {
             Body::AbortSub(xid) => self.strands.undo(*xid),
             Body::Abort(top) => self.strands.end(*top),
             Body::Note(_) => {}
-            Body::Commit(top, _) => return Ok(Step::Ready(self.strands.make_ready(*top)?)),
+            Body::Commit(top, _) => return Ok(RecordOutcome::Ready(self.strands.make_ready(*top)?)),
         }
-        Ok(Step::Quiet)
+        Ok(RecordOutcome::Quiet)
     }
 
     /// The k-th change that is ready: the position at which its record starts, and its body. It is lent from the arena, and found at

@@ -22,7 +22,7 @@ use crate::places::lent::Lent;
 use crate::places::members::Members;
 use crate::places::pool::Pool;
 use crate::ready::CommittedChanges;
-use crate::strand::Strand;
+use crate::subxact_ancestors::SubxactAncestors;
 use chgarena::Arena;
 use std::alloc::{AllocError, Global};
 use std::collections::HashMap;
@@ -32,7 +32,7 @@ use std::marker::Model;
 #[derive(Drop)]
 pub(crate) struct Strands {
     pub(crate) alloc: Global,
-    pub(crate) strands: HashMap<u32, Strand>,
+    pub(crate) strands: HashMap<u32, SubxactAncestors>,
     pub(crate) members: HashMap<u32, Members>,
     pub(crate) pool: Pool,
 }
@@ -114,7 +114,7 @@ impl Strands {
     {
         self.members.insert(xid, Members::of(xid))?;
         self.strands
-            .insert(xid, Strand::under(Vec::new(self.alloc)))?;
+            .insert(xid, SubxactAncestors::under(Vec::new(self.alloc)))?;
         self.pool.give_back(xid);
         Ok(())
     }
@@ -170,7 +170,7 @@ impl Strands {
     {
         let top = self.top_of(xid);
         if let Some(members) = self.members.get(&top) {
-            give_back_behind(&mut self.pool, &self.strands, members.as_slice(), xid);
+            give_back_after(&mut self.pool, &self.strands, members.as_slice(), xid);
         }
     }
 
@@ -184,7 +184,7 @@ impl Strands {
         let above = self.chain(parent)?;
         let top = last_or(parent, above.as_slice());
         add_member(self.alloc, &mut self.members, top, sub)?;
-        self.strands.insert(sub, Strand::under(above))?;
+        self.strands.insert(sub, SubxactAncestors::under(above))?;
         self.pool.give_back(sub);
         Ok(())
     }
@@ -319,7 +319,7 @@ fn remove_members(alloc: Global, members: &mut HashMap<u32, Members>, top: u32) 
 }
 
 /// Gives up the strands of these xids.
-fn remove_all(strands: &mut HashMap<u32, Strand>, xids: &[u32])
+fn remove_all(strands: &mut HashMap<u32, SubxactAncestors>, xids: &[u32])
     ensures { (x : ℕ) →
         get nat_eq strands.new x ≡ (if is_in x xids.now then None else get nat_eq strands.old x) }
 {
@@ -362,7 +362,12 @@ fn take_back_all(pool: &mut Pool, mut lent: Lent, xids: &[u32])
 }
 
 /// Gives back the entries of those xids that are under this one. They stand after it.
-fn give_back_behind(pool: &mut Pool, strands: &HashMap<u32, Strand>, xids: &[u32], xid: u32)
+fn give_back_after(
+    pool: &mut Pool,
+    strands: &HashMap<u32, SubxactAncestors>,
+    xids: &[u32],
+    xid: u32,
+)
     ensures whole { StaysWhole pool.old pool.new }
     ensures lent { StaysLent pool.old pool.new }
     ensures entries { (x : ℕ) →
@@ -381,7 +386,7 @@ fn give_back_behind(pool: &mut Pool, strands: &HashMap<u32, Strand>, xids: &[u32
 }
 
 /// Whether an xid is under another.
-fn is_under(strands: &HashMap<u32, Strand>, xid: u32, other: u32) -> bool
+fn is_under(strands: &HashMap<u32, SubxactAncestors>, xid: u32, other: u32) -> bool
     ensures { result ≡ is_in other (above_standing (get nat_eq strands.now xid)) }
 {
     match strands.get(&xid) {

@@ -9,8 +9,8 @@ use Rattle.replcmd.specs.declared.fault.CmdFault.TheVariants.{Syntax, Unsupporte
 use Rattle.replcmd.specs.declared.text.token.Token.{Token}
 use Rattle.replcmd.specs.declared.text.token.Token.TheVariants.{Word, Quoted, Value, Mark, Unclosed}
 use Rattle.replcmd.specs.declared.text.token.TheConstants.{OPEN, CLOSE, COMMA}
-use Rattle.replcmd.specs.declared.clauses.snapshot.Snapshot.{Snapshot}
-use Rattle.replcmd.specs.declared.clauses.snapshot.Snapshot.TheVariants.{Export}
+use Rattle.replcmd.specs.declared.clauses.snapshot_clause.SnapshotClause.{SnapshotClause}
+use Rattle.replcmd.specs.declared.clauses.snapshot_clause.SnapshotClause.TheVariants.{Export}
 use Rattle.replcmd.specs.declared.clauses.strictness.Strictness.{Strictness}
 use Rattle.replcmd.specs.declared.clauses.strictness.Strictness.TheVariants.{Strict, Lenient}
 use Rattle.replcmd.specs.Words.{is_keyword, is_truth, lower}
@@ -83,13 +83,13 @@ close_reads ts f = let a = sign_front CLOSE ts [] f in (a.0, ap slot_bracket_at 
 
 -- ---- SNAPSHOT and its value
 
-snapshot_value_follows : (strictness : Strictness) (ts : List Token) (snapshot : Snapshot) (rest : List Token) (parts : List Part) → snapshot_value_at strictness ts ≡ found snapshot rest → Follows rest parts
+snapshot_value_follows : (strictness : Strictness) (ts : List Token) (snapshot : SnapshotClause) (rest : List Token) (parts : List Part) → snapshot_value_at strictness ts ≡ found snapshot rest → Follows rest parts
     → (may_say strictness snapshot ≡ true) × Follows ts (Quote (snapshot_value snapshot) ∷ parts)
 snapshot_value_follows strictness ts snapshot rest parts e f =
     let a = bind_ok (value_at ts) (λ value. ok_or (snapshot_named strictness value.0) Unsupported >>= λ said. found said value.1) (snapshot, rest) e in
     by_name a.0.0 a.0.1 (value_follows ts a.0.0 a.0.1 a.1) (snapshot_named strictness a.0.0) refl a.2
   where
-    by_name : (v : List ℕ) (mid : List Token) → ts ≡ Value v ∷ mid → (o : Option Snapshot) → snapshot_named strictness v ≡ o
+    by_name : (v : List ℕ) (mid : List Token) → ts ≡ Value v ∷ mid → (o : Option SnapshotClause) → snapshot_named strictness v ≡ o
         → (ok_or o Unsupported >>= λ said. found said mid) ≡ found snapshot rest → (may_say strictness snapshot ≡ true) × Follows ts (Quote (snapshot_value snapshot) ∷ parts)
     by_name v mid front None is e = absurd cc
     by_name v mid front (Some said) is e =
@@ -99,16 +99,16 @@ snapshot_value_follows strictness ts snapshot rest parts e f =
         (named.1, subst (λ (l : List Token). Follows l (Quote (snapshot_value snapshot) ∷ parts)) (sym front) both)
 
 -- what is read of a value may be said, whatever follows
-value_may : (strictness : Strictness) (ts : List Token) (snapshot : Snapshot) (rest : List Token) → snapshot_value_at strictness ts ≡ found snapshot rest → may_say strictness snapshot ≡ true
+value_may : (strictness : Strictness) (ts : List Token) (snapshot : SnapshotClause) (rest : List Token) → snapshot_value_at strictness ts ≡ found snapshot rest → may_say strictness snapshot ≡ true
 value_may strictness ts snapshot rest e =
     let a = bind_ok (value_at ts) (λ value. ok_or (snapshot_named strictness value.0) Unsupported >>= λ said. found said value.1) (snapshot, rest) e in
     by_name a.0.0 a.0.1 (snapshot_named strictness a.0.0) refl a.2
   where
-    by_name : (v : List ℕ) (mid : List Token) → (o : Option Snapshot) → snapshot_named strictness v ≡ o → (ok_or o Unsupported >>= λ said. found said mid) ≡ found snapshot rest → may_say strictness snapshot ≡ true
+    by_name : (v : List ℕ) (mid : List Token) → (o : Option SnapshotClause) → snapshot_named strictness v ≡ o → (ok_or o Unsupported >>= λ said. found said mid) ≡ found snapshot rest → may_say strictness snapshot ≡ true
     by_name v mid None is e = absurd cc
     by_name v mid (Some said) is e = (named_is strictness v snapshot (is ∙ ap Some (same_found said mid snapshot rest e).0)).1
 
-snapshot_value_reads : (strictness : Strictness) (snapshot : Snapshot) → may_say strictness snapshot ≡ true → (ts : List Token) (parts : List Part) → Follows ts (Quote (snapshot_value snapshot) ∷ parts)
+snapshot_value_reads : (strictness : Strictness) (snapshot : SnapshotClause) → may_say strictness snapshot ≡ true → (ts : List Token) (parts : List Part) → Follows ts (Quote (snapshot_value snapshot) ∷ parts)
     → (rest : List Token) × (snapshot_value_at strictness ts ≡ found snapshot rest) × Follows rest parts
 snapshot_value_reads strictness snapshot may [] parts f = absurd f
 snapshot_value_reads strictness snapshot may (Word w ∷ tokens) parts f = absurd f.0
@@ -181,20 +181,20 @@ two_phase_reads flag is ts m parts f =
 
 -- ---- the options
 
-abbrev Ends : Strictness → Snapshot → List Token → Type 0
+abbrev Ends : Strictness → SnapshotClause → List Token → Type 0
 Ends strictness snapshot ts = (ending : List Part) × IsEnding strictness snapshot ending × Follows ts ending
 
 -- what follows where nothing is said, or a keyword says it
-word_follows : (strictness : Strictness) (ts : List Token) (snapshot : Snapshot) (rest : List Token) → found (past_snapshot strictness ts).0 (past_snapshot strictness ts).1 ≡ found snapshot rest → IsEnd rest
+word_follows : (strictness : Strictness) (ts : List Token) (snapshot : SnapshotClause) (rest : List Token) → found (past_snapshot strictness ts).0 (past_snapshot strictness ts).1 ≡ found snapshot rest → IsEnd rest
     → (ending : List Part) × IsEnding strictness snapshot ending × Follows ts ending
 word_follows strictness ts snapshot rest e end = by_front ts refl e
   where
     bare : (front : List Token) → ts ≡ front → found Export front ≡ found snapshot rest → (ending : List Part) × IsEnding strictness snapshot ending × Follows ts ending
     bare front is e =
         let same = same_found Export front snapshot rest e in
-        ([], subst (λ (x : Snapshot). IsEnding strictness x []) same.0 Unsaid, subst IsEnd (sym (is ∙ same.1)) end)
+        ([], subst (λ (x : SnapshotClause). IsEnding strictness x []) same.0 Unsaid, subst IsEnd (sym (is ∙ same.1)) end)
 
-    by_word : (w : List ℕ) (tokens : List Token) → ts ≡ Word w ∷ tokens → (o : Option Snapshot) → said_snapshot strictness w ≡ o
+    by_word : (w : List ℕ) (tokens : List Token) → ts ≡ Word w ∷ tokens → (o : Option SnapshotClause) → said_snapshot strictness w ≡ o
         → found (past_said o w tokens).0 (past_said o w tokens).1 ≡ found snapshot rest → (ending : List Part) × IsEnding strictness snapshot ending × Follows ts ending
     by_word w tokens is None said e = bare (Word w ∷ tokens) is e
     by_word w tokens is (Some s) said e =
@@ -222,7 +222,7 @@ bare_reads strictness (Value v ∷ []) end = absurd end
 bare_reads strictness (Mark b ∷ []) end = subst (λ (x : ℕ). ending_from strictness (past_mark OPEN (Mark x ∷ [])) ≡ found Export (Mark x ∷ [])) (sym end) refl
 bare_reads strictness (Unclosed ∷ []) end = absurd end
 
-word_reads : (strictness : Strictness) (snapshot : Snapshot) → may_say strictness snapshot ≡ true → (ts : List Token) → Follows ts (Keyword (snapshot_keyword snapshot) ∷ [])
+word_reads : (strictness : Strictness) (snapshot : SnapshotClause) → may_say strictness snapshot ≡ true → (ts : List Token) → Follows ts (Keyword (snapshot_keyword snapshot) ∷ [])
     → (rest : List Token) × (ending_at strictness ts ≡ found snapshot rest) × IsEnd rest
 unfolding ending_at
 word_reads strictness snapshot may [] f = absurd f
@@ -233,7 +233,7 @@ word_reads strictness snapshot may (Mark b ∷ tokens) f = absurd f.0
 word_reads strictness snapshot may (Unclosed ∷ tokens) f = absurd f.0
 
 -- behind the bracket and the word SNAPSHOT
-closed_follows : (strictness : Strictness) (ts rest : List Token) (snapshot : Snapshot) → may_say strictness snapshot ≡ true → closed_at strictness ts ≡ Ok rest → IsEnd rest
+closed_follows : (strictness : Strictness) (ts rest : List Token) (snapshot : SnapshotClause) → may_say strictness snapshot ≡ true → closed_at strictness ts ≡ Ok rest → IsEnd rest
     → (parts : List Part) × IsEnding strictness snapshot (Sign OPEN ∷ snapshot_parts snapshot parts) × Follows ts parts
 unfolding closed_at
 closed_follows Strict ts rest snapshot may e end = (close, ByOption snapshot may, close_follows ts rest e end)
@@ -253,7 +253,7 @@ closed_follows Lenient ts rest snapshot may e end =
         let all : Follows (Mark CLOSE ∷ next) close = (refl, subst IsEnd (sym same) end) in
         (close, ByOption snapshot may, subst (λ (l : List Token). Follows l close) (sym (close_is ts next none)) all)
 
-first_snapshot_follows : (strictness : Strictness) (inner behind : List Token) (snapshot : Snapshot) (rest : List Token) → past_word (codes "SNAPSHOT") inner ≡ passed true behind
+first_snapshot_follows : (strictness : Strictness) (inner behind : List Token) (snapshot : SnapshotClause) (rest : List Token) → past_word (codes "SNAPSHOT") inner ≡ passed true behind
     → first_snapshot_at strictness behind ≡ found snapshot rest → IsEnd rest → Ends strictness snapshot (Mark OPEN ∷ inner)
 unfolding first_snapshot_at
 first_snapshot_follows strictness inner behind snapshot rest word e end =
@@ -263,15 +263,15 @@ first_snapshot_follows strictness inner behind snapshot rest word e end =
     let is_end = subst IsEnd (sym same.1) end in
     by_parts value.0.0 value.0.1 closed.0 same.0 value.1 closed.1 is_end
   where
-    by_parts : (said : Snapshot) (mid more : List Token) → said ≡ snapshot → snapshot_value_at strictness behind ≡ found said mid → closed_at strictness mid ≡ Ok more → IsEnd more
+    by_parts : (said : SnapshotClause) (mid more : List Token) → said ≡ snapshot → snapshot_value_at strictness behind ≡ found said mid → closed_at strictness mid ≡ Ok more → IsEnd more
         → Ends strictness snapshot (Mark OPEN ∷ inner)
     by_parts said mid more same read closed end =
         let parts = closed_follows strictness mid more said (value_may strictness behind said mid read) closed end in
         let value = snapshot_value_follows strictness behind said mid parts.0 read parts.2 in
         let all : Follows (Mark OPEN ∷ inner) (Sign OPEN ∷ snapshot_parts said parts.0) = (refl, word_is (codes "SNAPSHOT") inner behind (Quote (snapshot_value said) ∷ parts.0) word value.1) in
-        (Sign OPEN ∷ snapshot_parts said parts.0, subst (λ (x : Snapshot). IsEnding strictness x (Sign OPEN ∷ snapshot_parts said parts.0)) same parts.1, all)
+        (Sign OPEN ∷ snapshot_parts said parts.0, subst (λ (x : SnapshotClause). IsEnding strictness x (Sign OPEN ∷ snapshot_parts said parts.0)) same parts.1, all)
 
-last_follows : (ts : List Token) (snapshot : Snapshot) (rest : List Token) → last_snapshot_at ts ≡ found snapshot rest → IsEnd rest → Follows ts (snapshot_parts snapshot close)
+last_follows : (ts : List Token) (snapshot : SnapshotClause) (rest : List Token) → last_snapshot_at ts ≡ found snapshot rest → IsEnd rest → Follows ts (snapshot_parts snapshot close)
 unfolding last_snapshot_at
 last_follows ts snapshot rest e end = by_word (past_word (codes "SNAPSHOT") ts) refl e
   where
@@ -281,10 +281,10 @@ last_follows ts snapshot rest e end = by_word (past_word (codes "SNAPSHOT") ts) 
         let closed = bind_ok (slot_bracket_at value.0.1) (λ more. found value.0.0 more) (snapshot, rest) value.2 in
         let same = same_found value.0.0 closed.0 snapshot rest closed.2 in
         let follows = snapshot_value_follows Lenient behind value.0.0 value.0.1 close value.1 (close_follows value.0.1 closed.0 closed.1 (subst IsEnd (sym same.1) end)) in
-        subst (λ (x : Snapshot). Follows ts (snapshot_parts x close)) same.0 (word_is (codes "SNAPSHOT") ts behind (Quote (snapshot_value value.0.0) ∷ close) is follows.1)
+        subst (λ (x : SnapshotClause). Follows ts (snapshot_parts x close)) same.0 (word_is (codes "SNAPSHOT") ts behind (Quote (snapshot_value value.0.0) ∷ close) is follows.1)
     by_word (false, behind) is e = absurd cc
 
-first_two_phase_follows : (ts : List Token) (snapshot : Snapshot) (rest : List Token) → first_two_phase_at ts ≡ found snapshot rest → IsEnd rest → Ends Lenient snapshot (Mark OPEN ∷ ts)
+first_two_phase_follows : (ts : List Token) (snapshot : SnapshotClause) (rest : List Token) → first_two_phase_at ts ≡ found snapshot rest → IsEnd rest → Ends Lenient snapshot (Mark OPEN ∷ ts)
 unfolding first_two_phase_at
 first_two_phase_follows ts snapshot rest e end =
     let phase = bind_ok (two_phase_at ts) (λ behind. more_settings behind >>= λ goes. cond goes.0 (last_snapshot_at goes.1) (found Export goes.1)) (snapshot, rest) e in
@@ -304,9 +304,9 @@ first_two_phase_follows ts snapshot rest e end =
         let behind : Follows (Mark CLOSE ∷ next) close = (refl, subst IsEnd (sym same.1) end) in
         let there = subst (λ (l : List Token). Follows l close) (sym (close_is mid next none)) behind in
         let flag = two_phase_follows ts mid close phase there in
-        (Sign OPEN ∷ two_phase_parts flag.0 close, subst (λ (x : Snapshot). IsEnding Lenient x (Sign OPEN ∷ two_phase_parts flag.0 close)) same.0 (TwoPhaseAlone flag.0 flag.1), (refl, flag.2))
+        (Sign OPEN ∷ two_phase_parts flag.0 close, subst (λ (x : SnapshotClause). IsEnding Lenient x (Sign OPEN ∷ two_phase_parts flag.0 close)) same.0 (TwoPhaseAlone flag.0 flag.1), (refl, flag.2))
 
-options_follow : (strictness : Strictness) (inner : List Token) (snapshot : Snapshot) (rest : List Token) → slot_options_at strictness inner ≡ found snapshot rest → IsEnd rest → Ends strictness snapshot (Mark OPEN ∷ inner)
+options_follow : (strictness : Strictness) (inner : List Token) (snapshot : SnapshotClause) (rest : List Token) → slot_options_at strictness inner ≡ found snapshot rest → IsEnd rest → Ends strictness snapshot (Mark OPEN ∷ inner)
 unfolding slot_options_at
 options_follow strictness inner snapshot rest e end = by_word strictness (past_word (codes "SNAPSHOT") inner) refl e
   where
@@ -317,7 +317,7 @@ options_follow strictness inner snapshot rest e end = by_word strictness (past_w
         let ends = first_two_phase_follows behind snapshot rest e end in
         subst (λ (l : List Token). Ends Lenient snapshot (Mark OPEN ∷ l)) (sym (word_stays (codes "SNAPSHOT") inner behind is)) ends
 
-pub ending_follows : (strictness : Strictness) (ts : List Token) (snapshot : Snapshot) (rest : List Token) → ending_at strictness ts ≡ found snapshot rest → IsEnd rest
+pub ending_follows : (strictness : Strictness) (ts : List Token) (snapshot : SnapshotClause) (rest : List Token) → ending_at strictness ts ≡ found snapshot rest → IsEnd rest
     → (ending : List Part) × IsEnding strictness snapshot ending × Follows ts ending
 unfolding ending_at
 ending_follows strictness ts snapshot rest e end = by_bracket (past_mark OPEN ts) refl e
@@ -328,11 +328,11 @@ ending_follows strictness ts snapshot rest e end = by_bracket (past_mark OPEN ts
 
 -- ---- what is spelled is read
 
-abbrev Reads : Strictness → Snapshot → List Token → Type 0
+abbrev Reads : Strictness → SnapshotClause → List Token → Type 0
 Reads strictness snapshot ts = (rest : List Token) × (ending_at strictness ts ≡ found snapshot rest) × IsEnd rest
 
 -- options, once their bracket is passed
-bracket_reads : (strictness : Strictness) (snapshot : Snapshot) (ts : List Token) (parts : List Part) → Follows ts (Sign OPEN ∷ parts)
+bracket_reads : (strictness : Strictness) (snapshot : SnapshotClause) (ts : List Token) (parts : List Part) → Follows ts (Sign OPEN ∷ parts)
     → ((inner : List Token) → Follows inner parts → (rest : List Token) × (slot_options_at strictness inner ≡ found snapshot rest) × IsEnd rest) → Reads strictness snapshot ts
 unfolding ending_at
 bracket_reads strictness snapshot ts parts f reads =
@@ -341,7 +341,7 @@ bracket_reads strictness snapshot ts parts f reads =
     (inner.0, ap (ending_at strictness) front.1 ∙ inner.1, inner.2)
 
 -- the word SNAPSHOT, its value, and what closes the options
-snapshot_reads : (strictness : Strictness) (snapshot : Snapshot) → may_say strictness snapshot ≡ true → (parts : List Part)
+snapshot_reads : (strictness : Strictness) (snapshot : SnapshotClause) → may_say strictness snapshot ≡ true → (parts : List Part)
     → ((ts : List Token) → Follows ts parts → (rest : List Token) × (closed_at strictness ts ≡ Ok rest) × IsEnd rest)
     → (inner : List Token) → Follows inner (snapshot_parts snapshot parts) → (rest : List Token) × (slot_options_at strictness inner ≡ found snapshot rest) × IsEnd rest
 unfolding slot_options_at first_snapshot_at
@@ -350,7 +350,7 @@ snapshot_reads strictness snapshot may parts closes inner f =
     let value = snapshot_value_reads strictness snapshot may word.0 parts word.3 in
     let closed = closes value.0 value.2 in
     let first : first_snapshot_at strictness word.0 ≡ found snapshot closed.0 =
-    ap (λ (r : Result (Snapshot × List Token) CmdFault). r >>= λ said. closed_at strictness said.1 >>= λ more. found said.0 more) value.1
+    ap (λ (r : Result (SnapshotClause × List Token) CmdFault). r >>= λ said. closed_at strictness said.1 >>= λ more. found said.0 more) value.1
     ∙ ap (λ (r : Result (List Token) CmdFault). r >>= λ more. found snapshot more) closed.1 in
     (closed.0, ap (if_snapshot strictness) word.1 ∙ first, closed.2)
 
@@ -373,14 +373,14 @@ closes_late flag is ts f =
       last.2,
     )
 
-last_reads : (snapshot : Snapshot) (ts : List Token) → Follows ts (snapshot_parts snapshot close) → (rest : List Token) × (last_snapshot_at ts ≡ found snapshot rest) × IsEnd rest
+last_reads : (snapshot : SnapshotClause) (ts : List Token) → Follows ts (snapshot_parts snapshot close) → (rest : List Token) × (last_snapshot_at ts ≡ found snapshot rest) × IsEnd rest
 unfolding last_snapshot_at
 last_reads snapshot ts f =
     let word = word_front (codes "SNAPSHOT") ts (Quote (snapshot_value snapshot) ∷ close) f in
     let value = snapshot_value_reads Lenient snapshot refl word.0 close word.3 in
     let last = close_reads value.0 value.2 in (
       last.0,
-      ap if_last word.1 ∙ ap (λ (r : Result (Snapshot × List Token) CmdFault). r >>= λ said. slot_bracket_at said.1 >>= λ more. found said.0 more) value.1
+      ap if_last word.1 ∙ ap (λ (r : Result (SnapshotClause × List Token) CmdFault). r >>= λ said. slot_bracket_at said.1 >>= λ more. found said.0 more) value.1
           ∙ ap (λ (r : Result (List Token) CmdFault). r >>= λ more. found snapshot more) last.1,
       last.2,
     )
@@ -395,29 +395,29 @@ phase_front (Mark b ∷ tokens) parts f = absurd f.0
 phase_front (Unclosed ∷ tokens) parts f = absurd f.0
 
 -- what follows TWO_PHASE where it stands first
-abbrev behind_phase : List Token → Result (Snapshot × List Token) CmdFault
-behind_phase ts = more_settings ts >>= λ goes. cond goes.0 (last_snapshot_at goes.1) (found Export goes.1)
+abbrev after_phase : List Token → Result (SnapshotClause × List Token) CmdFault
+after_phase ts = more_settings ts >>= λ goes. cond goes.0 (last_snapshot_at goes.1) (found Export goes.1)
 
-phase_reads : (snapshot : Snapshot) (flag : List Part) → IsFlag flag → (m : ℕ) (parts : List Part)
-    → ((ts : List Token) → Follows ts (Sign m ∷ parts) → (rest : List Token) × (behind_phase ts ≡ found snapshot rest) × IsEnd rest)
+phase_reads : (snapshot : SnapshotClause) (flag : List Part) → IsFlag flag → (m : ℕ) (parts : List Part)
+    → ((ts : List Token) → Follows ts (Sign m ∷ parts) → (rest : List Token) × (after_phase ts ≡ found snapshot rest) × IsEnd rest)
     → (inner : List Token) → Follows inner (two_phase_parts flag (Sign m ∷ parts)) → (rest : List Token) × (slot_options_at Lenient inner ≡ found snapshot rest) × IsEnd rest
 unfolding slot_options_at first_two_phase_at
 phase_reads snapshot flag is m parts reads inner f =
     let phase = two_phase_reads flag is inner m parts f in
     let behind = reads phase.0 phase.2 in
-    let first : first_two_phase_at inner ≡ found snapshot behind.0 = ap (λ (r : Result (List Token) CmdFault). r >>= behind_phase) phase.1 ∙ behind.1 in
+    let first : first_two_phase_at inner ≡ found snapshot behind.0 = ap (λ (r : Result (List Token) CmdFault). r >>= after_phase) phase.1 ∙ behind.1 in
     (behind.0, ap (if_snapshot Lenient) (phase_front inner (flag ++ (Sign m ∷ parts)) f) ∙ first, behind.2)
 
-nothing_behind : (ts : List Token) → Follows ts close → (rest : List Token) × (behind_phase ts ≡ found Export rest) × IsEnd rest
-nothing_behind ts f = let front = sign_front CLOSE ts [] f in (front.0, ap behind_phase front.1, front.2)
+nothing_after : (ts : List Token) → Follows ts close → (rest : List Token) × (after_phase ts ≡ found Export rest) × IsEnd rest
+nothing_after ts f = let front = sign_front CLOSE ts [] f in (front.0, ap after_phase front.1, front.2)
 
-snapshot_behind : (snapshot : Snapshot) (ts : List Token) → Follows ts (Sign COMMA ∷ snapshot_parts snapshot close) → (rest : List Token) × (behind_phase ts ≡ found snapshot rest) × IsEnd rest
-snapshot_behind snapshot ts f =
+snapshot_after : (snapshot : SnapshotClause) (ts : List Token) → Follows ts (Sign COMMA ∷ snapshot_parts snapshot close) → (rest : List Token) × (after_phase ts ≡ found snapshot rest) × IsEnd rest
+snapshot_after snapshot ts f =
     let front = sign_front COMMA ts (snapshot_parts snapshot close) f in
     let last = last_reads snapshot front.0 front.2 in
-    (last.0, ap behind_phase front.1 ∙ last.1, last.2)
+    (last.0, ap after_phase front.1 ∙ last.1, last.2)
 
-pub ending_reads : (strictness : Strictness) (snapshot : Snapshot) (ending : List Part) → IsEnding strictness snapshot ending → (ts : List Token) → Follows ts ending
+pub ending_reads : (strictness : Strictness) (snapshot : SnapshotClause) (ending : List Part) → IsEnding strictness snapshot ending → (ts : List Token) → Follows ts ending
     → (rest : List Token) × (ending_at strictness ts ≡ found snapshot rest) × IsEnd rest
 ending_reads strictness _ _ Unsaid ts f = (ts, bare_reads strictness ts f, f)
 ending_reads strictness _ _ (ByKeyword snapshot may) ts f = word_reads strictness snapshot may ts f
@@ -428,5 +428,5 @@ ending_reads _ _ _ (BeforeTwoPhase snapshot flag is) ts f =
     (λ inner g. snapshot_reads Lenient snapshot refl (Sign COMMA ∷ two_phase_parts flag close) (closes_late flag is) inner g)
 ending_reads _ _ _ (BehindTwoPhase snapshot flag is) ts f =
     bracket_reads Lenient snapshot ts (two_phase_parts flag (Sign COMMA ∷ snapshot_parts snapshot close)) f
-    (λ inner g. phase_reads snapshot flag is COMMA (snapshot_parts snapshot close) (snapshot_behind snapshot) inner g)
-ending_reads _ _ _ (TwoPhaseAlone flag is) ts f = bracket_reads Lenient Export ts (two_phase_parts flag close) f (λ inner g. phase_reads Export flag is CLOSE [] nothing_behind inner g)
+    (λ inner g. phase_reads snapshot flag is COMMA (snapshot_parts snapshot close) (snapshot_after snapshot) inner g)
+ending_reads _ _ _ (TwoPhaseAlone flag is) ts f = bracket_reads Lenient Export ts (two_phase_parts flag close) f (λ inner g. phase_reads Export flag is CLOSE [] nothing_after inner g)

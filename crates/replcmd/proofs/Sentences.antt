@@ -9,7 +9,7 @@ use Rattle.replcmd.specs.declared.text.verb.Verb.{Verb}
 use Rattle.replcmd.specs.declared.text.verb.Verb.TheVariants as verb
 use Rattle.replcmd.specs.declared.clauses.setting.Setting.{Setting}
 use Rattle.replcmd.specs.declared.clauses.setting.StreamOptions.{StreamOptions}
-use Rattle.replcmd.specs.declared.clauses.snapshot.Snapshot.{Snapshot}
+use Rattle.replcmd.specs.declared.clauses.snapshot_clause.SnapshotClause.{SnapshotClause}
 use Rattle.replcmd.specs.declared.clauses.strictness.Strictness.{Strictness}
 use Rattle.replcmd.specs.declared.command.Command.{Command}
 use Rattle.replcmd.specs.declared.command.Command.TheVariants.{Identify, Create, Start, Drop}
@@ -36,7 +36,7 @@ identify_follows ts c e =
     (sym same, end_is verb.Identify ts a.1)
 
 create_follows : (strictness : Strictness) (ts : List Token) (c : Command) → create_at strictness ts ≡ Ok c
-    → (slot : List ℕ) × (snapshot : Snapshot) × (c ≡ Create slot snapshot) × (is_slot_name slot ≡ true) × (ending : List Part) × IsEnding strictness snapshot ending
+    → (slot : List ℕ) × (snapshot : SnapshotClause) × (c ≡ Create slot snapshot) × (is_slot_name slot ≡ true) × (ending : List Part) × IsEnding strictness snapshot ending
     × Follows ts (Named slot ∷ Keyword (codes "LOGICAL") ∷ Named (codes "pgoutput") ∷ ending)
 unfolding create_at
 create_follows strictness ts c e =
@@ -61,7 +61,7 @@ create_follows strictness ts c e =
       name_follows ts slot.0.0 slot.0.1 (Keyword (codes "LOGICAL") ∷ Named (codes "pgoutput") ∷ last.0) named.1 word,
     )
 
-create_reads : (strictness : Strictness) (ts : List Token) (slot : List ℕ) (snapshot : Snapshot) (ending : List Part) → is_slot_name slot ≡ true → IsEnding strictness snapshot ending
+create_reads : (strictness : Strictness) (ts : List Token) (slot : List ℕ) (snapshot : SnapshotClause) (ending : List Part) → is_slot_name slot ≡ true → IsEnding strictness snapshot ending
     → Follows ts (Named slot ∷ Keyword (codes "LOGICAL") ∷ Named (codes "pgoutput") ∷ ending) → create_at strictness ts ≡ Ok (Create slot snapshot)
 unfolding create_at
 create_reads strictness ts slot snapshot ending is is_ending f =

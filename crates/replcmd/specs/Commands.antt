@@ -11,8 +11,8 @@ use Rattle.replcmd.specs.declared.text.token.TheConstants.{OPEN, CLOSE, COMMA}
 use Rattle.replcmd.specs.declared.text.verb.Verb.{Verb}
 use Rattle.replcmd.specs.declared.text.verb.Verb.TheVariants as verb
 use Rattle.replcmd.specs.declared.clauses.setting.Setting.{Setting}
-use Rattle.replcmd.specs.declared.clauses.snapshot.Snapshot.{Snapshot}
-use Rattle.replcmd.specs.declared.clauses.snapshot.Snapshot.TheVariants.{Export}
+use Rattle.replcmd.specs.declared.clauses.snapshot_clause.SnapshotClause.{SnapshotClause}
+use Rattle.replcmd.specs.declared.clauses.snapshot_clause.SnapshotClause.TheVariants.{Export}
 use Rattle.replcmd.specs.declared.clauses.strictness.Strictness.{Strictness}
 use Rattle.replcmd.specs.declared.clauses.strictness.Strictness.TheVariants.{Strict, Lenient}
 use Rattle.replcmd.specs.declared.command.Command.{Command}
@@ -73,7 +73,7 @@ if_two_phase (false, tokens) = Err (other_option tokens)
 unfoldable pub two_phase_at : List Token → Result (List Token) CmdFault
 two_phase_at tokens = if_two_phase (past_word (codes "TWO_PHASE") tokens)
 
-abbrev pub snapshot_value_at : Strictness → List Token → Result (Snapshot × List Token) CmdFault
+abbrev pub snapshot_value_at : Strictness → List Token → Result (SnapshotClause × List Token) CmdFault
 snapshot_value_at strictness tokens = do
   value ← value_at tokens
   snapshot ← ok_or (snapshot_named strictness value.0) Unsupported
@@ -84,39 +84,39 @@ unfoldable pub closed_at : Strictness → List Token → Result (List Token) Cmd
 closed_at Strict tokens = slot_bracket_at tokens
 closed_at Lenient tokens = more_settings tokens >>= λ goes. if goes.0 then (two_phase_at goes.1 >>= λ rest. slot_bracket_at rest) else Ok goes.1
 
-unfoldable pub first_snapshot_at : Strictness → List Token → Result (Snapshot × List Token) CmdFault
+unfoldable pub first_snapshot_at : Strictness → List Token → Result (SnapshotClause × List Token) CmdFault
 first_snapshot_at strictness tokens = do
   snapshot ← snapshot_value_at strictness tokens
   rest ← closed_at strictness snapshot.1
   Ok (snapshot.0, rest)
 
 -- TWO_PHASE as the first one, which SNAPSHOT may follow
-abbrev pub if_last : Bool × List Token → Result (Snapshot × List Token) CmdFault
+abbrev pub if_last : Bool × List Token → Result (SnapshotClause × List Token) CmdFault
 if_last (true, tokens) = snapshot_value_at Lenient tokens >>= λ snapshot. slot_bracket_at snapshot.1 >>= λ rest. Ok (snapshot.0, rest)
 if_last (false, tokens) = Err (other_option tokens)
 
-unfoldable pub last_snapshot_at : List Token → Result (Snapshot × List Token) CmdFault
+unfoldable pub last_snapshot_at : List Token → Result (SnapshotClause × List Token) CmdFault
 last_snapshot_at tokens = if_last (past_word (codes "SNAPSHOT") tokens)
 
-unfoldable pub first_two_phase_at : List Token → Result (Snapshot × List Token) CmdFault
+unfoldable pub first_two_phase_at : List Token → Result (SnapshotClause × List Token) CmdFault
 first_two_phase_at tokens = do
   rest ← two_phase_at tokens
   goes ← more_settings rest
   if goes.0 then last_snapshot_at goes.1 else Ok (Export, goes.1)
 
-abbrev pub if_snapshot : Strictness → Bool × List Token → Result (Snapshot × List Token) CmdFault
+abbrev pub if_snapshot : Strictness → Bool × List Token → Result (SnapshotClause × List Token) CmdFault
 if_snapshot strictness (true, tokens) = first_snapshot_at strictness tokens
 if_snapshot Strict (false, tokens) = Err (other_option tokens)
 if_snapshot Lenient (false, tokens) = first_two_phase_at tokens
 
-unfoldable pub slot_options_at : Strictness → List Token → Result (Snapshot × List Token) CmdFault
+unfoldable pub slot_options_at : Strictness → List Token → Result (SnapshotClause × List Token) CmdFault
 slot_options_at strictness tokens = if_snapshot strictness (past_word (codes "SNAPSHOT") tokens)
 
-abbrev pub ending_from : Strictness → Bool × List Token → Result (Snapshot × List Token) CmdFault
+abbrev pub ending_from : Strictness → Bool × List Token → Result (SnapshotClause × List Token) CmdFault
 ending_from strictness (true, tokens) = slot_options_at strictness tokens
 ending_from strictness (false, tokens) = Ok (past_snapshot strictness tokens)
 
-unfoldable pub ending_at : Strictness → List Token → Result (Snapshot × List Token) CmdFault
+unfoldable pub ending_at : Strictness → List Token → Result (SnapshotClause × List Token) CmdFault
 ending_at strictness tokens = ending_from strictness (past_mark OPEN tokens)
 
 unfoldable pub create_at : Strictness → List Token → Result Command CmdFault

@@ -14,8 +14,8 @@ use Rattle.replcmd.specs.declared.text.token.Token.{Token}
 use Rattle.replcmd.specs.declared.text.token.Token.TheVariants.{Word, Value, Mark}
 use Rattle.replcmd.specs.declared.text.token.TheConstants.{OPEN, CLOSE, COMMA, SEMICOLON}
 use Rattle.replcmd.specs.declared.clauses.setting.Setting.{Setting}
-use Rattle.replcmd.specs.declared.clauses.snapshot.Snapshot.{Snapshot}
-use Rattle.replcmd.specs.declared.clauses.snapshot.Snapshot.TheVariants.{Export}
+use Rattle.replcmd.specs.declared.clauses.snapshot_clause.SnapshotClause.{SnapshotClause}
+use Rattle.replcmd.specs.declared.clauses.snapshot_clause.SnapshotClause.TheVariants.{Export}
 use Rattle.replcmd.specs.declared.clauses.strictness.Strictness.{Strictness}
 use Rattle.replcmd.specs.declared.clauses.strictness.Strictness.TheVariants.{Lenient}
 use Rattle.replcmd.specs.declared.command.Command.{Command}
@@ -73,7 +73,7 @@ setting_parts strictness (s ∷ t ∷ settings) = Named (option_name s) ∷ Chos
 abbrev pub create_parts : List ℕ → List Part → List Part
 create_parts slot ending = Keyword (codes "CREATE_REPLICATION_SLOT") ∷ Named slot ∷ Keyword (codes "LOGICAL") ∷ Named (codes "pgoutput") ∷ ending
 
-abbrev pub snapshot_parts : Snapshot → List Part → List Part
+abbrev pub snapshot_parts : SnapshotClause → List Part → List Part
 snapshot_parts snapshot parts = Keyword (codes "SNAPSHOT") ∷ Quote (snapshot_value snapshot) ∷ parts
 
 -- TWO_PHASE, with a truth value or without
@@ -85,14 +85,14 @@ abbrev pub two_phase_parts : List Part → List Part → List Part
 two_phase_parts flag parts = Keyword (codes "TWO_PHASE") ∷ (flag ++ parts)
 
 -- What is said of the snapshot, where it may be said: nothing, which is that it is exported; a keyword; or an option, beside TWO_PHASE or not.
-pub data IsEnding : Strictness → Snapshot → List Part → Type 0 where
+pub data IsEnding : Strictness → SnapshotClause → List Part → Type 0 where
   Unsaid : {strictness : Strictness} → IsEnding strictness Export []
-  ByKeyword : {strictness : Strictness} → (snapshot : Snapshot) → may_say strictness snapshot ≡ true → IsEnding strictness snapshot (Keyword (snapshot_keyword snapshot) ∷ [])
-  ByOption : {strictness : Strictness} → (snapshot : Snapshot) → may_say strictness snapshot ≡ true
+  ByKeyword : {strictness : Strictness} → (snapshot : SnapshotClause) → may_say strictness snapshot ≡ true → IsEnding strictness snapshot (Keyword (snapshot_keyword snapshot) ∷ [])
+  ByOption : {strictness : Strictness} → (snapshot : SnapshotClause) → may_say strictness snapshot ≡ true
       → IsEnding strictness snapshot (Sign OPEN ∷ snapshot_parts snapshot (Sign CLOSE ∷ []))
-  BeforeTwoPhase : (snapshot : Snapshot) → (flag : List Part) → IsFlag flag
+  BeforeTwoPhase : (snapshot : SnapshotClause) → (flag : List Part) → IsFlag flag
       → IsEnding Lenient snapshot (Sign OPEN ∷ snapshot_parts snapshot (Sign COMMA ∷ two_phase_parts flag (Sign CLOSE ∷ [])))
-  BehindTwoPhase : (snapshot : Snapshot) → (flag : List Part) → IsFlag flag
+  BehindTwoPhase : (snapshot : SnapshotClause) → (flag : List Part) → IsFlag flag
       → IsEnding Lenient snapshot (Sign OPEN ∷ two_phase_parts flag (Sign COMMA ∷ snapshot_parts snapshot (Sign CLOSE ∷ [])))
   TwoPhaseAlone : (flag : List Part) → IsFlag flag → IsEnding Lenient Export (Sign OPEN ∷ two_phase_parts flag (Sign CLOSE ∷ []))
 

@@ -17,8 +17,8 @@ use Rattle.replcmd.specs.declared.text.token.TheConstants.{COMMA, SEMICOLON}
 use Rattle.replcmd.specs.declared.text.verb.Verb.{Verb}
 use Rattle.replcmd.specs.declared.text.verb.Verb.TheVariants as verb
 use Rattle.replcmd.specs.declared.clauses.strictness.Strictness.{Strictness}
-use Rattle.replcmd.specs.declared.clauses.snapshot.Snapshot.{Snapshot}
-use Rattle.replcmd.specs.declared.clauses.snapshot.Snapshot.TheVariants.{Export}
+use Rattle.replcmd.specs.declared.clauses.snapshot_clause.SnapshotClause.{SnapshotClause}
+use Rattle.replcmd.specs.declared.clauses.snapshot_clause.SnapshotClause.TheVariants.{Export}
 use Rattle.replcmd.specs.Lexing.{after_blanks, token_at}
 use Rattle.replcmd.specs.Snapshots.{said_snapshot}
 use Rattle.replcmd.specs.Words.{lower, is_keyword, is_truth, is_bare, is_slot_name}
@@ -63,11 +63,11 @@ past_word keyword (Word w ∷ tokens) = if is_keyword keyword w then (true, toke
 past_word keyword tokens = (false, tokens)
 
 -- what the keyword at the front says of a snapshot; it is exported where nothing is said
-abbrev pub past_said : Option Snapshot → List ℕ → List Token → Snapshot × List Token
+abbrev pub past_said : Option SnapshotClause → List ℕ → List Token → SnapshotClause × List Token
 past_said (Some snapshot) w tokens = (snapshot, tokens)
 past_said None w tokens = (Export, Word w ∷ tokens)
 
-abbrev pub past_snapshot : Strictness → List Token → Snapshot × List Token
+abbrev pub past_snapshot : Strictness → List Token → SnapshotClause × List Token
 past_snapshot strictness (Word w ∷ tokens) = past_said (said_snapshot strictness w) w tokens
 past_snapshot strictness tokens = (Export, tokens)
 

@@ -6,7 +6,7 @@ ghost use Rattle.replcmd.specs.Commands.{Tells, command_at};
 ghost use Rattle.replcmd.specs.Reading.{Answers};
 
 use crate::clauses::setting::StreamOptions;
-use crate::clauses::snapshot::Snapshot;
+use crate::clauses::snapshot_clause::SnapshotClause;
 use crate::clauses::strictness::Strictness;
 use crate::commands::create::create_of;
 use crate::commands::drop_slot::drop_of;
@@ -27,7 +27,7 @@ pub enum Command {
     /// `CREATE_REPLICATION_SLOT slot LOGICAL pgoutput ( SNAPSHOT 'snapshot' )`
     Create {
         slot: Text,
-        snapshot: Snapshot,
+        snapshot: SnapshotClause,
     },
     /// `START_REPLICATION SLOT slot LOGICAL at (proto_version '1', publication_names 'publications', messages 'messages')`
     Start {

@@ -14,8 +14,9 @@ mod commands;
 mod fault;
 mod text;
 
+pub use clauses::publications::names_of;
 pub use clauses::setting::StreamOptions;
-pub use clauses::snapshot::Snapshot;
+pub use clauses::snapshot_clause::SnapshotClause;
 pub use clauses::strictness::Strictness;
 pub use clauses::unrecognized::unrecognized_option;
 pub use command::{Command, no_text_spells_two_commands, parse_command};

@@ -13,7 +13,7 @@ use Rattle.tables.specs.declared.kinds.Value.{Value}
 use Rattle.tables.specs.Kinds.{IsValue, spell_value}
 use Rattle.tables.specs.Spelling.{row_length}
 use Rattle.row_messages.specs.Kinds.{cell_of}
-use Rattle.row_messages.specs.Tuples.{cell_behind, key_tuple_of, tuple_behind, tuple_of}
+use Rattle.row_messages.specs.Tuples.{cell_after, key_tuple_of, tuple_after, tuple_of}
 use Rattle.row_messages.proofs.Values.{cell_near}
 
 told : (c : Cell) (cs : List Cell) → length (flat_map cell (c ∷ cs)) ≡ length (cell c) + length (flat_map cell cs)
@@ -33,13 +33,13 @@ or_less : (b : Bool) (c : Cell) (n : ℕ) (v : Value) → 1 ≤ n → length (ce
 or_less true c n v one first other = omega (arith, one, other)
 or_less false c n v one first other = first
 
-behind_near : (old new : List Value) → length old ≡ length new → AllByRecursion IsValue new → length (flat_map cell (tuple_behind old new)) ≤ 24 * length new + length (flat_map spell_value new)
-behind_near [] new same all = omega arith
-behind_near (u ∷ old) [] same all = absurd (omega (arith, same))
-behind_near (u ∷ old) (v ∷ new) same all =
-    let first : length (cell (cell_behind u v)) ≤ 24 + length (spell_value v) = or_less _ cells.Unchanged (24 + length (spell_value v)) v (omega arith) (cell_near v all.0) (omega arith) in
-    let rest = behind_near old new (omega (arith, same)) all.1 in
-    omega (arith, first, rest, told (cell_behind u v) (tuple_behind old new), kept v new)
+after_near : (old new : List Value) → length old ≡ length new → AllByRecursion IsValue new → length (flat_map cell (tuple_after old new)) ≤ 24 * length new + length (flat_map spell_value new)
+after_near [] new same all = omega arith
+after_near (u ∷ old) [] same all = absurd (omega (arith, same))
+after_near (u ∷ old) (v ∷ new) same all =
+    let first : length (cell (cell_after u v)) ≤ 24 + length (spell_value v) = or_less _ cells.Unchanged (24 + length (spell_value v)) v (omega arith) (cell_near v all.0) (omega arith) in
+    let rest = after_near old new (omega (arith, same)) all.1 in
+    omega (arith, first, rest, told (cell_after u v) (tuple_after old new), kept v new)
 
 key_cell : (b : Bool) (v : Value) → IsValue v → length (cell (cond b (cell_of v) cells.Null)) ≤ 24 + length (spell_value v)
 key_cell true v in_range = cell_near v in_range
@@ -63,8 +63,8 @@ bounded cs row near few = omega (arith, near, few, coded row, length-append (int
 pub tuple_bound : (row : List Value) → AllByRecursion IsValue row → length row ≤ 64 → length (tuple (tuple_of row)) ≤ 1536 + row_length row
 tuple_bound row all few = bounded (tuple_of row) row (row_near row all) few
 
-pub behind_bound : (old new : List Value) → length old ≡ length new → AllByRecursion IsValue new → length new ≤ 64 → length (tuple (tuple_behind old new)) ≤ 1536 + row_length new
-behind_bound old new same all few = bounded (tuple_behind old new) new (behind_near old new same all) few
+pub after_bound : (old new : List Value) → length old ≡ length new → AllByRecursion IsValue new → length new ≤ 64 → length (tuple (tuple_after old new)) ≤ 1536 + row_length new
+after_bound old new same all few = bounded (tuple_after old new) new (after_near old new same all) few
 
 pub key_bound : (columns : List Column) (row : List Value) → AllByRecursion IsValue row → length row ≤ 64 → length (tuple (key_tuple_of columns row)) ≤ 1536 + row_length row
 key_bound columns row all few = bounded (key_tuple_of columns row) row (key_near columns row all) few

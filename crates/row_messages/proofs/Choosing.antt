@@ -21,7 +21,7 @@ use Rattle.row_messages.specs.Relations.{listed_items, table_as_published, FitsT
 use Rattle.pgoutput.specs.declared.parts.tuple.Cell.{Cell}
 use Rattle.pgoutput.specs.declared.parts.tuple.Cell.TheVariants as cells
 use Rattle.row_messages.specs.Kinds.{cell_of}
-use Rattle.row_messages.specs.Tuples.{cell_behind}
+use Rattle.row_messages.specs.Tuples.{cell_after}
 use Rattle.row_messages.specs.Messages.{stands_in}
 use Rattle.row_messages.proofs.Rows.{both_true}
 
@@ -52,8 +52,8 @@ abbrev pub key_cell_of : Column × Value → Cell
 key_cell_of p = if p.0.is_key then cell_of p.1 else cells.Null
 
 -- the cell of a value beside the one whose place it took
-abbrev pub behind_cell : Value × Value → Cell
-behind_cell p = cell_behind p.0 p.1
+abbrev pub after_cell : Value × Value → Cell
+after_cell p = cell_after p.0 p.1
 
 -- ---- two lists beside each other
 

@@ -23,7 +23,7 @@ use Rattle.tables.specs.Spelling.{row_length}
 use Rattle.tables.specs.Tables.{fits_table}
 use Rattle.row_messages.specs.Relations.{FitsTable}
 use Rattle.row_messages.specs.Kinds.{cell_of, is_long, same_value}
-use Rattle.row_messages.specs.Tuples.{cell_behind, changes_key, key_tuple_of, old_by, old_row_of_update, tuple_behind, tuple_of}
+use Rattle.row_messages.specs.Tuples.{cell_after, changes_key, key_tuple_of, old_by, old_row_of_update, tuple_after, tuple_of}
 use Rattle.row_messages.specs.Messages.{stands_in}
 use Rattle.tables.proofs.Values.{some_byte}
 use Rattle.row_messages.proofs.Values.{cell_fits, sent_cell}
@@ -71,21 +71,21 @@ kept_cell_fits true v in_range short = record { fits = tt; short = omega (arith,
 kept_cell_fits false v in_range short = let f = cell_fits v in_range short in record { fits = f.fits; short = f.short }
 
 record BehindFits (old new : List Value) : Type 0 where
-  count : length (tuple_behind old new) ≡ length new
-  fits : AllByRecursion FitsCell (tuple_behind old new)
-  short : length (flat_map cell (tuple_behind old new)) ≤ 4 * length (flat_map spell_value new)
+  count : length (tuple_after old new) ≡ length new
+  fits : AllByRecursion FitsCell (tuple_after old new)
+  short : length (flat_map cell (tuple_after old new)) ≤ 4 * length (flat_map spell_value new)
 
-behind_fits : (old new : List Value) → length old ≡ length new → AllByRecursion IsValue new → length (flat_map spell_value new) ≤ MAX_ROW_LENGTH → BehindFits old new
-behind_fits [] [] counts in_range short = record { count = refl; fits = tt; short = omega arith }
-behind_fits [] (v ∷ new) counts in_range short = absurd cc
-behind_fits (o ∷ old) [] counts in_range short = absurd cc
-behind_fits (o ∷ old) (v ∷ new) counts in_range short =
+after_fits : (old new : List Value) → length old ≡ length new → AllByRecursion IsValue new → length (flat_map spell_value new) ≤ MAX_ROW_LENGTH → BehindFits old new
+after_fits [] [] counts in_range short = record { count = refl; fits = tt; short = omega arith }
+after_fits [] (v ∷ new) counts in_range short = absurd cc
+after_fits (o ∷ old) [] counts in_range short = absurd cc
+after_fits (o ∷ old) (v ∷ new) counts in_range short =
     let spelled : length (flat_map spell_value (v ∷ new)) ≡ length (spell_value v) + length (flat_map spell_value new) = ap length (flat_map-cons spell_value v new) ∙ length-append (spell_value v) (flat_map spell_value new) in
     let first = kept_cell_fits (is_long v && same_value o v) v in_range.0 (omega arith) in
-    let others = behind_fits old new (omega (arith, counts)) in_range.1 (omega arith) in
-    let one = cell_behind o v in
-    let told : length (flat_map cell (tuple_behind (o ∷ old) (v ∷ new))) ≡ length (cell one) + length (flat_map cell (tuple_behind old new)) =
-    ap length (flat_map-cons cell one (tuple_behind old new)) ∙ length-append (cell one) (flat_map cell (tuple_behind old new)) in
+    let others = after_fits old new (omega (arith, counts)) in_range.1 (omega arith) in
+    let one = cell_after o v in
+    let told : length (flat_map cell (tuple_after (o ∷ old) (v ∷ new))) ≡ length (cell one) + length (flat_map cell (tuple_after old new)) =
+    ap length (flat_map-cons cell one (tuple_after old new)) ∙ length-append (cell one) (flat_map cell (tuple_after old new)) in
     record { count = ap suc others.count; fits = (first.fits, others.fits); short = omega (arith, spelled, told, first.short, others.short) }
 
 -- of a row that stands by itself every value is sent
@@ -130,12 +130,12 @@ tuple_fits t row table in_range stands =
     let count : length (tuple_of row) ≡ length t.columns = length-map row cell_of ∙ sym s.counts in
     record { count = count; fits = (omega (arith, count, table.count), cells.fits); short = cells_short (tuple_of row) (omega (arith, cells.short, s.short)) }
 
-pub tuple_behind_fits : (t : Table) (old new : List Value) → FitsTable t → AllByRecursion IsValue new → stands_in t old ≡ true → stands_in t new ≡ true → TupleFits t (tuple_behind old new)
-tuple_behind_fits t old new table in_range is_old is_new =
+pub tuple_after_fits : (t : Table) (old new : List Value) → FitsTable t → AllByRecursion IsValue new → stands_in t old ≡ true → stands_in t new ≡ true → TupleFits t (tuple_after old new)
+tuple_after_fits t old new table in_range is_old is_new =
     let s = stood t new is_new in
-    let cells = behind_fits old new (sym (whole_row t old is_old) ∙ s.counts) in_range s.short in
-    let count : length (tuple_behind old new) ≡ length t.columns = cells.count ∙ sym s.counts in
-    record { count = count; fits = (omega (arith, count, table.count), cells.fits); short = cells_short (tuple_behind old new) (omega (arith, cells.short, s.short)) }
+    let cells = after_fits old new (sym (whole_row t old is_old) ∙ s.counts) in_range s.short in
+    let count : length (tuple_after old new) ≡ length t.columns = cells.count ∙ sym s.counts in
+    record { count = count; fits = (omega (arith, count, table.count), cells.fits); short = cells_short (tuple_after old new) (omega (arith, cells.short, s.short)) }
 
 -- of a key, each cell is that of the row, or shorter
 key_cells_fit : (columns : List Column) (row : List Value) → length columns ≡ length row → AllByRecursion IsValue row → length (flat_map spell_value row) ≤ MAX_ROW_LENGTH → KeyFits columns row

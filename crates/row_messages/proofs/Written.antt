@@ -217,8 +217,8 @@ head_room out kind oid letter more room =
     let short = length-append (int32 oid) (letter ∷ []) in
     (omega (arith, long, short, room.0), room.1)
 
-pub behind_head : (out new : List ℕ) (to kind oid letter : ℕ) (more : List ℕ) → Writes 0 to out new (kind ∷ (int32 oid ++ (letter ∷ []))) → FitsRoom 0 out (kind ∷ (int32 oid ++ (letter ∷ more))) → FitsRoom to new more
-behind_head out new to kind oid letter more w room =
+pub after_head : (out new : List ℕ) (to kind oid letter : ℕ) (more : List ℕ) → Writes 0 to out new (kind ∷ (int32 oid ++ (letter ∷ []))) → FitsRoom 0 out (kind ∷ (int32 oid ++ (letter ∷ more))) → FitsRoom to new more
+after_head out new to kind oid letter more w room =
     left 0 to out new (kind ∷ (int32 oid ++ (letter ∷ []))) more w (subst (λ l. FitsRoom 0 out (kind ∷ l)) (sym (append_assoc (int32 oid) (letter ∷ []) more)) room)
 
 pub deletion_room : (t : Table) (row : List Value) (out : List ℕ) (o : OldTuple) → old_by t.identity t row ≡ Some o → ((m : Logical) → delete_message row t ≡ Some m → FitsRoom 0 out (spell_logical m))

@@ -7,7 +7,7 @@ use Rattle.tables.specs.declared.kinds.Value.{Value}
 use Rattle.tables.specs.declared.table.Table.{Table}
 use Rattle.tables.specs.Spelling.{row_length}
 use Rattle.tables.specs.Tables.{fits_table}
-use Rattle.row_messages.specs.Tuples.{tuple_of, tuple_behind, old_by, old_row_of_update}
+use Rattle.row_messages.specs.Tuples.{tuple_of, tuple_after, old_by, old_row_of_update}
 
 -- a row that the table takes, and that is no longer than rows may be
 abbrev pub stands_in : Table → List Value → Bool
@@ -17,7 +17,7 @@ abbrev pub insert_message : List Value → Table → Logical
 insert_message row t = logical.Insert (record { oid = t.oid; new = tuple_of row })
 
 abbrev pub update_message : (old new : List Value) → Table → Logical
-update_message old new t = logical.Update (record { oid = t.oid; old = old_row_of_update t.identity t old new; new = tuple_behind old new })
+update_message old new t = logical.Update (record { oid = t.oid; old = old_row_of_update t.identity t old new; new = tuple_after old new })
 
 -- without an identity nothing can be told of a row that is gone
 abbrev pub delete_message : List Value → Table → Option Logical

@@ -20,12 +20,12 @@ abbrev pub key_tuple_of : List Column → List Value → List Cell
 key_tuple_of columns row = map (λ p. if p.0.is_key then cell_of p.1 else cells.Null) (zip columns row)
 
 -- the cell of a value that took the place of another one: a long text that stayed the same isn't sent
-abbrev pub cell_behind : (old new : Value) → Cell
-cell_behind old new = if is_long new && same_value old new then cells.Unchanged else cell_of new
+abbrev pub cell_after : (old new : Value) → Cell
+cell_after old new = if is_long new && same_value old new then cells.Unchanged else cell_of new
 
 -- the tuple of a row that took the place of another one
-abbrev pub tuple_behind : (old new : List Value) → List Cell
-tuple_behind old new = map (λ p. cell_behind p.0 p.1) (zip old new)
+abbrev pub tuple_after : (old new : List Value) → List Cell
+tuple_after old new = map (λ p. cell_after p.0 p.1) (zip old new)
 
 -- whether a column of the primary key has one value in the one row and another one in the other
 abbrev pub changes_key : List Column → (old new : List Value) → Bool

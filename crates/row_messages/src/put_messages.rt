@@ -13,7 +13,7 @@ ghost use Rattle.pqformat.specs.Writing.{FitsRoom, Writes};
 ghost use Rattle.row_messages.specs.Spelling.{IsWritten};
 ghost use Rattle.row_messages.specs.Tuples.{old_row_of_update};
 
-use crate::tuples::{changes_key_in, put_key_tuple, put_tuple, put_tuple_behind};
+use crate::tuples::{changes_key_in, put_key_tuple, put_tuple, put_tuple_after};
 use pgoutput::{DELETE, INSERT, KEY, NEW, OLD, UPDATE};
 use pqformat::{write_byte, write_int32};
 use tables::{Identity, RowRef, Table};
@@ -60,7 +60,7 @@ pub fn put_replacement(
     let oid = write_int32(out, kind, table.oid);
     let replaced = put_replaced(out, oid, table, listed, old, new);
     let letter = write_byte(out, replaced, NEW);
-    put_tuple_behind(out, letter, listed, old, new)
+    put_tuple_after(out, letter, listed, old, new)
 }
 
 /// What is sent of a row beside the one that took its place: the key only where it changed.

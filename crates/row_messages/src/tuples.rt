@@ -7,7 +7,7 @@ ghost use Rattle.pgoutput.specs.declared.parts.tuple.Cell.TheVariants as cells;
 ghost use Rattle.row_messages.specs.Relations.{listed_items};
 ghost use Rattle.pqformat.specs.Writing.{FitsRoom, Writes};
 ghost use Rattle.row_messages.specs.Kinds.{cell_of, same_value};
-ghost use Rattle.row_messages.specs.Tuples.{cell_behind, changes_key, key_tuple_of, tuple_behind, tuple_of};
+ghost use Rattle.row_messages.specs.Tuples.{cell_after, changes_key, key_tuple_of, tuple_after, tuple_of};
 ghost use Rattle.tables.specs.Kinds.{value_of};
 ghost use Rattle.tables.specs.declared.kinds.Value.TheVariants as values;
 
@@ -34,7 +34,7 @@ pub(crate) fn put_tuple(out: &mut [u8], at: usize, listed: &[bool], row: &RowRef
 }
 
 /// The same of a row that took the place of another one: a long text that stayed the same isn't sent.
-pub(crate) fn put_tuple_behind(
+pub(crate) fn put_tuple_after(
     out: &mut [u8],
     at: usize,
     listed: &[bool],
@@ -42,27 +42,27 @@ pub(crate) fn put_tuple_behind(
     new: &RowRef<'_>,
 ) -> usize
     requires room { FitsRoom at out.old
-        (tuple (tuple_behind (listed_items listed.now old.now) (listed_items listed.now new.now))) }
+        (tuple (tuple_after (listed_items listed.now old.now) (listed_items listed.now new.now))) }
     requires few { length old.now < 2 ^ 15 }
     requires same { length old.now ≡ length new.now }
     ensures { Writes at result out.old out.new
-        (tuple (tuple_behind (listed_items listed.now old.now) (listed_items listed.now new.now))) }
+        (tuple (tuple_after (listed_items listed.now old.now) (listed_items listed.now new.now))) }
 {
     let mut end = write_int16(out, at, count_listed(listed, old) as u16);
     for i in 0..old.len() {
         let before = value_in(old, i);
         let value = value_in(new, i);
         if is_listed(listed, i) {
-            end = put_cell_behind(out, end, before, value);
+            end = put_cell_after(out, end, before, value);
         }
     }
     end
 }
 
-fn put_cell_behind(out: &mut [u8], at: usize, old: ValueRef<'_>, new: ValueRef<'_>) -> usize
-    requires { FitsRoom at out.old (cell (cell_behind (value_of old) (value_of new))) }
+fn put_cell_after(out: &mut [u8], at: usize, old: ValueRef<'_>, new: ValueRef<'_>) -> usize
+    requires { FitsRoom at out.old (cell (cell_after (value_of old) (value_of new))) }
     ensures { Writes at result out.old out.new
-        (cell (cell_behind (value_of old.entry) (value_of new.entry))) }
+        (cell (cell_after (value_of old.entry) (value_of new.entry))) }
 {
     if is_long(new) && is_same(old, new) {
         return write_byte(out, at, UNCHANGED);

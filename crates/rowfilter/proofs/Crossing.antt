@@ -5,7 +5,7 @@ use denote.Param.SendFields.{declared_send, declared_sync}
 use Rattle.std.proofs.Crossing as heap
 use Rattle.pqformat.proofs.items.Items.TheSendSync as items
 use Rattle.conditions.proofs.expression.Expression.TheLaws.TheKnot as tree
-use Rattle.conditions.specs.contracts.flat.step.Asked as asked
+use Rattle.conditions.specs.contracts.flat.step.StepCondition as asked
 use Rattle.conditions.specs.contracts.flat.step.Step as step
 use Rattle.rowfilter.specs.contracts.filter.Filter as filter
 

@@ -6,7 +6,7 @@ use Rattle.tables.specs.Kinds.{uuid_of_text}
 use Rattle.tables.specs.declared.kinds.Kind.TheVariants as kinds
 use Rattle.tables.specs.declared.kinds.Value.TheVariants as values
 use Rattle.conditions.specs.declared.values.comparison.Comparison.TheVariants.{Equal, Greater}
-use Rattle.conditions.specs.declared.values.question.Question.TheVariants as questions
+use Rattle.conditions.specs.declared.values.is_test.IsTest.TheVariants as questions
 use Rattle.conditions.specs.declared.words.token.Token.{Token}
 use Rattle.conditions.specs.declared.words.token.Token.TheVariants.{Word, Number, Mark}
 use Rattle.conditions.specs.declared.truth.Truth.TheVariants.{True, False, Unknown}

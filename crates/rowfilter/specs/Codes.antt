@@ -4,7 +4,7 @@ use Rattle.std.specs.Prelude.{◌≡◌, refl, ℕ, Bool, List, [], ◌∷◌}
 use Rattle.std.proofs.Common.{ap, ◌∙◌}
 use Rattle.std.specs.Coded.{Coded, code_by, coded_list}
 use Rattle.conditions.specs.declared.values.comparison.Comparison.{Comparison}
-use Rattle.conditions.specs.declared.values.question.Question.{Question}
+use Rattle.conditions.specs.declared.values.is_test.IsTest.{IsTest}
 use Rattle.conditions.specs.Conditions.{Datum, Missing, Condition, Column, Literal, Compare, Is, Not, And, Or}
 
 -- an operand, or what joins the operands before it
@@ -12,7 +12,7 @@ pub data Sign : Type 0 where
   ColumnSign : ℕ → Sign
   LiteralSign : Datum → Sign
   CompareSign : Comparison → Sign
-  IsSign : Question → Bool → Sign
+  IsSign : IsTest → Bool → Sign
   NotSign : Sign
   AndSign : Sign
   OrSign : Sign

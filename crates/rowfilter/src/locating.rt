@@ -4,7 +4,8 @@ ghost use Rattle.std.specs.Prelude.{◌≡◌, ◌≤◌, IfOk, length};
 
 use crate::reading::{MOST_BYTES, condition_of};
 use conditions::{
-    FilterFault, MOST_LEVELS, Part, Pending, Place, Token, Word, behind_blanks, token_of,
+    FilterFault, FilterWord, MOST_LEVELS, ParserState, Part, Pending, Token, behind_blanks,
+    token_of,
 };
 use std::alloc::{AllocError, Global};
 use std::mem;
@@ -68,7 +69,7 @@ fn word_at(
     let mut search = Search {
         sought,
         pending: Vec::new(alloc),
-        place: Place::Wanting,
+        place: ParserState::Wanting,
     };
     end_of(alloc, &mut search, text, columns)
 }
@@ -100,7 +101,7 @@ fn end_of(
 struct Search {
     sought: Sought,
     pending: Vec<Pending>,
-    place: Place,
+    place: ParserState,
 }
 
 impl Search {
@@ -111,16 +112,16 @@ impl Search {
         token: &Token,
         columns: &[Column],
     ) -> Result<bool, AllocError> {
-        let word = Word::of(alloc, token, columns)?;
+        let word = FilterWord::of(alloc, token, columns)?;
         if is_met(self.sought, &self.place, &word, columns.len()) {
             return Ok(true);
         }
         self.sought = behind(self.sought, &self.place, &word);
-        self.ends_behind(alloc, word)
+        self.ends_after(alloc, word)
     }
 
-    fn ends_behind(&mut self, alloc: Global, word: Word) -> Result<bool, AllocError> {
-        let place = mem::replace(&mut self.place, Place::Wanting);
+    fn ends_after(&mut self, alloc: Global, word: FilterWord) -> Result<bool, AllocError> {
+        let place = mem::replace(&mut self.place, ParserState::Wanting);
         match place.next(alloc, &mut self.pending, word) {
             Ok(next) => drop(mem::replace(&mut self.place, next)),
             Err(FilterFault::Memory) => return Err(AllocError),
@@ -132,8 +133,8 @@ impl Search {
 }
 
 /// Whether the word is the one that is looked for.
-fn is_met(sought: Sought, place: &Place, word: &Word, columns: usize) -> bool {
-    let (Place::Wanting, Word::Operand(part, _)) = (place, word) else {
+fn is_met(sought: Sought, place: &ParserState, word: &FilterWord, columns: usize) -> bool {
+    let (ParserState::Wanting, FilterWord::Operand(part, _)) = (place, word) else {
         return false;
     };
     match (sought, &part.tree) {
@@ -145,9 +146,9 @@ fn is_met(sought: Sought, place: &Place, word: &Word, columns: usize) -> bool {
 }
 
 /// What is looked for after this word.
-fn behind(sought: Sought, place: &Place, word: &Word) -> Sought {
+fn behind(sought: Sought, place: &ParserState, word: &FilterWord) -> Sought {
     match (sought, place, word) {
-        (Sought::Operand(others), Place::Wanting, Word::Operand(_, _)) => {
+        (Sought::Operand(others), ParserState::Wanting, FilterWord::Operand(_, _)) => {
             Sought::Operand(others.saturating_sub(1))
         }
         _ => sought,
@@ -155,14 +156,14 @@ fn behind(sought: Sought, place: &Place, word: &Word) -> Sought {
 }
 
 /// Whether there are too many levels, whatever follows.
-fn is_deep(pending: &[Pending], place: &Place) -> bool {
+fn is_deep(pending: &[Pending], place: &ParserState) -> bool {
     if pending.len() >= MOST_LEVELS {
         return true;
     }
     match (pending.last(), place) {
-        (Some(Pending::Joint(_, left)), Place::Wanting) => is_highest(left),
-        (_, Place::Asking(part, _)) => is_highest(part),
-        (_, Place::Having(part)) => is_too_deep(part),
+        (Some(Pending::Joint(_, left)), ParserState::Wanting) => is_highest(left),
+        (_, ParserState::Asking(part, _)) => is_highest(part),
+        (_, ParserState::Having(part)) => is_too_deep(part),
         _ => false,
     }
 }

@@ -12,7 +12,9 @@ ghost use Rattle.conditions.specs.Tokens.{Spells};
 ghost use Rattle.conditions.specs.Views.{GivesPart, Moves, state_of};
 
 use crate::filter::Filter;
-use conditions::{Expression, FilterFault, Part, Pending, Place, Token, Word, read_tokens, whole};
+use conditions::{
+    Expression, FilterFault, FilterWord, ParserState, Part, Pending, Token, read_tokens, whole,
+};
 use std::alloc::Global;
 use tables::{Column, Table};
 
@@ -70,25 +72,25 @@ fn part_of(alloc: Global, tokens: &[Token], columns: &[Column]) -> Result<Part, 
     ensures { GivesPart result (run parts (Wanting []) (map (word_at columns.now) tokens.now)) }
 {
     let mut pending = Vec::new(alloc);
-    let mut place = Place::Wanting;
+    let mut place = ParserState::Wanting;
     for token in tokens {
-        place = place_behind(alloc, &mut pending, place, token, columns)?;
+        place = place_after(alloc, &mut pending, place, token, columns)?;
     }
     whole(alloc, &mut pending, place)
 }
 
 /// The place after the word of one token more.
-fn place_behind(
+fn place_after(
     alloc: Global,
     pending: &mut Vec<Pending>,
-    place: Place,
+    place: ParserState,
     token: &Token,
     columns: &[Column],
-) -> Result<Place, FilterFault>
+) -> Result<ParserState, FilterFault>
     ensures { Moves result pending.new.items
         (step parts (state_of pending.old.items place) (word_at columns.now token.now)) }
 {
-    let word = Word::of(alloc, token, columns)?;
+    let word = FilterWord::of(alloc, token, columns)?;
     place.next(alloc, pending, word)
 }
 

@@ -14,8 +14,8 @@ use Rattle.txlog.specs.Publishing.{PublisherState, IsRefusalOrMemory, insert_ref
 use Rattle.schedule.specs.declared.event.Literal.{Literal}
 use Rattle.schedule.specs.declared.event.SessionStep.{SessionStep}
 use Rattle.schedule.specs.declared.event.SessionStep.TheVariants as steps
-use Rattle.schedule.specs.declared.printed.answer.Answer.{Answer}
-use Rattle.schedule.specs.declared.printed.answer.Answer.TheVariants as answers
+use Rattle.schedule.specs.declared.session_answer.SessionAnswer.{SessionAnswer}
+use Rattle.schedule.specs.declared.session_answer.SessionAnswer.TheVariants as answers
 use Rattle.schedule.specs.declared.session.Session.{Session}
 use Rattle.schedule.specs.Transactions.{NamedTx, xid_of, without_name}
 use Rattle.schedule.specs.SessionLines.{Ask, IsCalled, IsAnswered, after_step, if_known, if_new, insert_refused, update_refused, delete_refused, step_ask, step_refusal}
@@ -34,19 +34,12 @@ kept_names : (ss : List Session) (place : ℕ) (s t : Session) → s ≡ slice_i
 kept_names ss place s t value same = map-set_same named_tx ss place t s (ap named_tx (same ∙ value))
 
 -- a call of the publisher is that of a line which leaves the names as they are
-answered : (a : Answer) (refusal : Option SessionFault) (done p q : PublisherState) (ts new : List NamedTx) → new ≡ ts → Called refusal done p a q
+answered : (a : SessionAnswer) (refusal : Option SessionFault) (done p q : PublisherState) (ts new : List NamedTx) → new ≡ ts → Called refusal done p a q
     → IsAnswered (record { refusal = refusal; done = done; transactions = ts }) (record { publisher = p; transactions = ts }) a (record { publisher = q; transactions = new })
 answered answers.Done refusal done p q ts new same called = (called.0, rw (called.1, same) refl)
-answered (answers.Session fault) refusal done p q ts new same called = (called.0, rw (called.1, same) refl)
-answered (answers.Slot fault) refusal done p q ts new same called = absurd called
-answered (answers.Publication fault) refusal done p q ts new same called = absurd called
-answered answers.NoReader refusal done p q ts new same called = absurd called
-answered answers.Removed refusal done p q ts new same called = absurd called
-answered (answers.Front place) refusal done p q ts new same called = absurd called
-answered (answers.Sender fault) refusal done p q ts new same called = absurd called
-answered (answers.Subscriber fault) refusal done p q ts new same called = absurd called
+answered (answers.Refused fault) refusal done p q ts new same called = (called.0, rw (called.1, same) refl)
 
-pub asked : (name : List ℕ) (place : ℕ) (ss : List Session) (p q : PublisherState) (s t : Session) (a : Answer) (refusal : ℕ → Option SessionFault) (done : ℕ → PublisherState)
+pub asked : (name : List ℕ) (place : ℕ) (ss : List Session) (p q : PublisherState) (s t : Session) (a : SessionAnswer) (refusal : ℕ → Option SessionFault) (done : ℕ → PublisherState)
     → IsNamedAt name place ss → s ≡ slice_index_or ss place s → t ≡ s → Called (refusal s.tx) (done s.tx) p a q
     → IsCalled (if_known (xid_of name (map named_tx ss)) (λ x. record { refusal = refusal x; done = done x; transactions = map named_tx ss })) (sessions_state p ss) a (sessions_state q (slice_set ss place t))
 asked name place ss p q s t a refusal done at value same called =
@@ -71,14 +64,14 @@ within_ask name (steps.Release depth) p ts e = refl
 within_ask name (steps.Commit time) p ts e = let never : false ≡ true = e in cc
 within_ask name steps.Abort p ts e = let never : false ≡ true = e in cc
 
-pub acted : (name : List ℕ) (step : SessionStep) (place : ℕ) (ss : List Session) (p q : PublisherState) (s t : Session) (r : Result Answer AllocError) → is_within step ≡ true → IsNamedAt name place ss
+pub acted : (name : List ℕ) (step : SessionStep) (place : ℕ) (ss : List Session) (p q : PublisherState) (s t : Session) (r : Result SessionAnswer AllocError) → is_within step ≡ true → IsNamedAt name place ss
     → s ≡ slice_index_or ss place s → t ≡ s → IfOk r (λ a. Called (step_refusal step s.tx p) (after_step step s.tx p) p a q) → IfOk r (λ a. IsStepOf name step p ss a q (slice_set ss place t))
 acted name step place ss p q s t (Ok a) within at value same called =
     let P : Option Ask → Type 0 = λ o. IsCalled o (sessions_state p ss) a (sessions_state q (slice_set ss place t)) in
     subst P (sym (within_ask name step p (map named_tx ss) within)) (asked name place ss p q s t a (λ n. step_refusal step n p) (λ n. after_step step n p) at value same called)
 acted name step place ss p q s t (Err e) within at value same called = tt
 
-pub states_kept : (place : ℕ) (ss : List Session) (p q : PublisherState) (s t : Session) (r : Result Answer AllocError) → s ≡ slice_index_or ss place s → t ≡ s → OnErr r (q ≡ p) → OnErr r (sessions_state q (slice_set ss place t) ≡ sessions_state p ss)
+pub states_kept : (place : ℕ) (ss : List Session) (p q : PublisherState) (s t : Session) (r : Result SessionAnswer AllocError) → s ≡ slice_index_or ss place s → t ≡ s → OnErr r (q ≡ p) → OnErr r (sessions_state q (slice_set ss place t) ≡ sessions_state p ss)
 states_kept place ss p q s t (Ok a) value same kept = tt
 states_kept place ss p q s t (Err e) value same kept = rw (kept, kept_names ss place s t value same) refl
 
@@ -111,12 +104,12 @@ ended name place ss rest p q s refusal done at value none is out =
 
 pub given_back : (name : List ℕ) (place : ℕ) (ss rest new : List Session) (p q : PublisherState) (s back : Session) (fault : SessionFault) (refusal : ℕ → Option SessionFault) (done : ℕ → PublisherState)
     → IsNamedAt name place ss → s ≡ slice_index_or ss place s → back ≡ s → IsRefusalOrMemory (refusal s.tx) fault → q ≡ p → rest ≡ remove ss place → new ≡ insert rest place back
-    → IsCalled (if_known (xid_of name (map named_tx ss)) (λ x. record { refusal = refusal x; done = done x; transactions = without_name name (map named_tx ss) })) (sessions_state p ss) (answers.Session fault) (sessions_state q new)
+    → IsCalled (if_known (xid_of name (map named_tx ss)) (λ x. record { refusal = refusal x; done = done x; transactions = without_name name (map named_tx ss) })) (sessions_state p ss) (answers.Refused fault) (sessions_state q new)
 given_back name place ss rest new p q s back fault refusal done at value same judged is out put =
     let lt = slice_get_within ss place at.session at.there in
     let here : at.session ≡ s = one_there ss place at.session s at.there (slice_get_read ss (length ss) place s refl lt value) in
     let whole : new ≡ ss = put ∙ ap (λ l. insert l place back) out ∙ ap (λ x. insert (remove ss place) place x) same ∙ put_back ss place s lt value in
-    let P : Option ℕ → Type 0 = λ o. IsCalled (if_known o (λ x. record { refusal = refusal x; done = done x; transactions = without_name name (map named_tx ss) })) (sessions_state p ss) (answers.Session fault) (sessions_state q new) in
+    let P : Option ℕ → Type 0 = λ o. IsCalled (if_known o (λ x. record { refusal = refusal x; done = done x; transactions = without_name name (map named_tx ss) })) (sessions_state p ss) (answers.Refused fault) (sessions_state q new) in
     subst P (sym (at.xid ∙ ap (λ (x : Session). Option.Some x.tx) here)) (judged, rw (is, whole) refl)
 
 -- ---- tables by name

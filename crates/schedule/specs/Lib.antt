@@ -1,4 +1,3 @@
-pub mod Codes
 pub mod Transactions
 pub mod Rows
 pub mod SessionLines

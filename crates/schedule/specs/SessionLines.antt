@@ -13,8 +13,8 @@ use Rattle.schedule.specs.declared.event.Event.TheVariants as events
 use Rattle.schedule.specs.declared.event.SessionStep.{SessionStep}
 use Rattle.schedule.specs.declared.event.SessionStep.TheVariants as steps
 use Rattle.schedule.specs.declared.event.Literal.{Literal}
-use Rattle.schedule.specs.declared.printed.answer.Answer.{Answer}
-use Rattle.schedule.specs.declared.printed.answer.Answer.TheVariants as answers
+use Rattle.schedule.specs.declared.session_answer.SessionAnswer.{SessionAnswer}
+use Rattle.schedule.specs.declared.session_answer.SessionAnswer.TheVariants as answers
 use Rattle.schedule.specs.Transactions.{NamedTx, xid_of, without_name}
 use Rattle.schedule.specs.Rows.{row_in, key_columns}
 
@@ -152,12 +152,11 @@ pub record SessionState : Type 0 where
   pub transactions : List NamedTx
 
 -- Done, the call left what it leaves; refused, by its refusal or for memory, it left everything as it was.
-abbrev pub IsAnswered : Ask → SessionState → Answer → SessionState → Type 0
+abbrev pub IsAnswered : Ask → SessionState → SessionAnswer → SessionState → Type 0
 IsAnswered ask old answers.Done new = (ask.refusal ≡ None) × (new ≡ record { publisher = ask.done; transactions = ask.transactions })
-IsAnswered ask old (answers.Session fault) new = IsRefusalOrMemory ask.refusal fault × (new ≡ old)
-IsAnswered ask old answer new = ⊥
+IsAnswered ask old (answers.Refused fault) new = IsRefusalOrMemory ask.refusal fault × (new ≡ old)
 
-abbrev pub IsCalled : Option Ask → SessionState → Answer → SessionState → Type 0
+abbrev pub IsCalled : Option Ask → SessionState → SessionAnswer → SessionState → Type 0
 IsCalled None old answer new = ⊥
 IsCalled (Some ask) old answer new = IsAnswered ask old answer new
 
@@ -165,10 +164,10 @@ abbrev pub state_of : PublisherState → List NamedTx → SessionState
 state_of publisher transactions = record { publisher = publisher; transactions = transactions }
 
 -- the line's call, for the transaction of its name
-abbrev pub IsLine : Event → SessionState → Answer → SessionState → Type 0
+abbrev pub IsLine : Event → SessionState → SessionAnswer → SessionState → Type 0
 IsLine event old answer new = IsCalled (ask_of event old.publisher old.transactions) old answer new
 
 -- a commit that is done tells of its record; nothing else does
-abbrev pub receipt_due : Event → SessionState → Answer → Option Committed
+abbrev pub receipt_due : Event → SessionState → SessionAnswer → Option Committed
 receipt_due (events.Session t (steps.Commit time)) old answers.Done = option_map (λ xid. receipt_of xid time old.publisher) (xid_of t old.transactions)
 receipt_due event old answer = None

@@ -8,8 +8,8 @@ use Rattle.txlog.specs.declared.answers.fault.SessionFault.{SessionFault}
 use Rattle.txlog.specs.Publishing.{PublisherState, IsRefusalOrMemory}
 use Rattle.schedule.specs.declared.event.SessionStep.{SessionStep}
 use Rattle.schedule.specs.declared.event.SessionStep.TheVariants as steps
-use Rattle.schedule.specs.declared.printed.answer.Answer.{Answer}
-use Rattle.schedule.specs.declared.printed.answer.Answer.TheVariants as answers
+use Rattle.schedule.specs.declared.session_answer.SessionAnswer.{SessionAnswer}
+use Rattle.schedule.specs.declared.session_answer.SessionAnswer.TheVariants as answers
 use Rattle.schedule.specs.declared.session.Session.{Session}
 use Rattle.schedule.specs.Transactions.{NamedTx, xid_of, without_name}
 use Rattle.schedule.specs.SessionLines.{SessionState, IsCalled, step_ask}
@@ -33,13 +33,12 @@ pub record IsNamedAt (name : List ℕ) (place : ℕ) (sessions : List Session) :
   pub without : without_name name (map named_tx sessions) ≡ map named_tx (remove sessions place)
 
 -- A call of the publisher: done, it left this state; refused, by this refusal or for memory, it left the state as it was.
-abbrev pub Called : Option SessionFault → PublisherState → PublisherState → Answer → PublisherState → Type 0
+abbrev pub Called : Option SessionFault → PublisherState → PublisherState → SessionAnswer → PublisherState → Type 0
 Called refusal done old answers.Done new = (refusal ≡ None) × (new ≡ done)
-Called refusal done old (answers.Session fault) new = IsRefusalOrMemory refusal fault × (new ≡ old)
-Called refusal done old answer new = ⊥
+Called refusal done old (answers.Refused fault) new = IsRefusalOrMemory refusal fault × (new ≡ old)
 
 -- a step, for the sessions by name
-abbrev pub IsStepOf : List ℕ → SessionStep → PublisherState → List Session → Answer → PublisherState → List Session → Type 0
+abbrev pub IsStepOf : List ℕ → SessionStep → PublisherState → List Session → SessionAnswer → PublisherState → List Session → Type 0
 IsStepOf name step publisher sessions answer new_publisher new_sessions =
     IsCalled (step_ask name step publisher (map named_tx sessions)) (sessions_state publisher sessions) answer (sessions_state new_publisher new_sessions)
 

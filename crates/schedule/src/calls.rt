@@ -8,8 +8,8 @@ ghost use Rattle.txlog.specs.Publishing.{after_note, note_refusal};
 ghost use Rattle.schedule.specs.Sessions.{Called, Grows, IsNamedAt, IsStepOf, is_within, named_tx, sessions_state};
 
 use crate::event::SessionStep;
-use crate::printed::answer::Answer;
 use crate::session::{Session, place_of};
+use crate::session_answer::SessionAnswer;
 use pqformat::Text;
 use shared_log::LogName;
 use std::alloc::{AllocError, Global};
@@ -24,7 +24,7 @@ pub(crate) fn call<L: LogName, R: Wait>(
     alloc: Global,
     name: &Text,
     step: &SessionStep,
-) -> Result<(Answer, Option<Receipt<L>>), AllocError>
+) -> Result<(SessionAnswer, Option<Receipt<L>>), AllocError>
     requires asks { is_some
         (step_ask name.now step.now publisher.old (map named_tx sessions.old.items))
         ≡ true }
@@ -81,7 +81,7 @@ fn begin<L: LogName>(
     sessions: &mut Vec<Session>,
     alloc: Global,
     name: &Text,
-) -> Result<Answer, AllocError>
+) -> Result<SessionAnswer, AllocError>
     requires fresh { is_some (xid_of name.now (map named_tx sessions.old.items)) ≡ false }
     ensures calls { IfOk result
         (λ a. IsStepOf name.now SessionStep.Begin publisher.old sessions.old.items a publisher.new
@@ -96,11 +96,11 @@ fn begin<L: LogName>(
     match publisher.begin() {
         Ok(tx) => {
             match sessions.push(Session { name, tx }) {
-                Ok(()) => return Ok(Answer::Done),
+                Ok(()) => return Ok(SessionAnswer::Done),
                 Err(_) => unreachable!(),
             }
         }
-        Err(fault) => return Ok(Answer::Session(fault)),
+        Err(fault) => return Ok(SessionAnswer::Refused(fault)),
     }
 }
 
@@ -112,7 +112,7 @@ fn act<L: LogName, R: Wait>(
     alloc: Global,
     name: &Text,
     step: &SessionStep,
-) -> Result<Answer, AllocError>
+) -> Result<SessionAnswer, AllocError>
     requires known { is_some (xid_of name.now (map named_tx sessions.old.items)) ≡ true }
     requires within { is_within step.now ≡ true }
     ensures calls { IfOk result
@@ -135,7 +135,7 @@ fn commit<L: LogName, R: Wait>(
     sessions: &mut Vec<Session>,
     name: &Text,
     time: i64,
-) -> (Answer, Option<Receipt<L>>)
+) -> (SessionAnswer, Option<Receipt<L>>)
     requires known { is_some (xid_of name.now (map named_tx sessions.old.items)) ≡ true }
     ensures calls { IsStepOf name.now (SessionStep.Commit time) publisher.old sessions.old.items
         result.0 publisher.new sessions.new.items }
@@ -146,10 +146,10 @@ fn commit<L: LogName, R: Wait>(
 {
     let place = known_place(sessions.as_slice(), name);
     match sessions.remove(place).commit(rt, publisher, time) {
-        Ok(receipt) => return (Answer::Done, Some(receipt)),
+        Ok(receipt) => return (SessionAnswer::Done, Some(receipt)),
         Err((session, fault)) => {
             match sessions.insert(place, session) {
-                Ok(()) => return (Answer::Session(fault), None),
+                Ok(()) => return (SessionAnswer::Refused(fault), None),
                 Err(_) => unreachable!(),
             }
         }
@@ -161,7 +161,7 @@ fn abort<L: LogName, R: Wait>(
     publisher: &mut Publisher<L>,
     sessions: &mut Vec<Session>,
     name: &Text,
-) -> Answer
+) -> SessionAnswer
     requires known { is_some (xid_of name.now (map named_tx sessions.old.items)) ≡ true }
     ensures calls { IsStepOf name.now SessionStep.Abort publisher.old sessions.old.items result
         publisher.new sessions.new.items }
@@ -169,10 +169,10 @@ fn abort<L: LogName, R: Wait>(
 {
     let place = known_place(sessions.as_slice(), name);
     match sessions.remove(place).abort(rt, publisher) {
-        Ok(()) => return Answer::Done,
+        Ok(()) => return SessionAnswer::Done,
         Err((session, fault)) => {
             match sessions.insert(place, session) {
-                Ok(()) => return Answer::Session(fault),
+                Ok(()) => return SessionAnswer::Refused(fault),
                 Err(_) => unreachable!(),
             }
         }
@@ -185,13 +185,13 @@ pub(crate) fn note<L: LogName, R: Wait>(
     publisher: &mut Publisher<L>,
     prefix: &Text,
     content: &Text,
-) -> Answer
+) -> SessionAnswer
     ensures called { Called (note_refusal prefix.now content.now publisher.old)
         (after_note prefix.now content.now publisher.old) publisher.old result publisher.new }
     ensures grows { Grows publisher.old.log publisher.new.log }
 {
     match publisher.note(rt, prefix.as_str(), content.as_str().as_bytes()) {
-        Ok(_) => return Answer::Done,
-        Err(fault) => return Answer::Session(fault),
+        Ok(_) => return SessionAnswer::Done,
+        Err(fault) => return SessionAnswer::Refused(fault),
     }
 }

@@ -18,7 +18,7 @@ pub struct Schedule {
 /// The line of a schedule that was not read, and why.
 #[derive(Clone, Copy, Debug, PartialEq, Eq, Error)]
 #[error("line {line}: {fault}")]
-pub struct LineFault {
+pub struct ScheduleFault {
     pub line: usize,
     pub fault: WorldFault,
 }
@@ -26,7 +26,7 @@ pub struct LineFault {
 impl Schedule {
     /// The events of all lines. Empty lines and lines that begin with `#` are passed over, but counted. The first line that is
     /// no event is refused, with its number: `BadEvent` (V1), or `Memory` (V2). Then no event is given.
-    pub fn parse(alloc: Global, text: &str) -> Result<Schedule, LineFault> {
+    pub fn parse(alloc: Global, text: &str) -> Result<Schedule, ScheduleFault> {
         let mut schedule = Schedule {
             events: Vec::new(alloc),
             lines: Vec::new(alloc),
@@ -36,7 +36,7 @@ impl Schedule {
                 continue;
             }
             if let Err(fault) = schedule.add(alloc, line, content) {
-                return Err(LineFault { line, fault });
+                return Err(ScheduleFault { line, fault });
             }
         }
         Ok(schedule)

@@ -8,7 +8,7 @@ ghost use Rattle.schedule.specs.Sessions.{Called, Grows, is_within, named_tx, pl
 
 use crate::event::{Literal, SessionStep};
 use crate::lines::rows::{key_of, row_of};
-use crate::printed::answer::Answer;
+use crate::session_answer::SessionAnswer;
 use catalog::Catalog;
 use pqformat::{Items, Text};
 use shared_log::LogName;
@@ -30,7 +30,7 @@ impl Session {
         publisher: &mut Publisher<L>,
         alloc: Global,
         step: &SessionStep,
-    ) -> Result<Answer, AllocError>
+    ) -> Result<SessionAnswer, AllocError>
         requires within { is_within step.now ≡ true }
         ensures called { IfOk result
             (λ a. Called (step_refusal step.now self.old.tx publisher.old)
@@ -69,7 +69,7 @@ impl Session {
         alloc: Global,
         table: &Text,
         row: &[Literal],
-    ) -> Result<Answer, AllocError>
+    ) -> Result<SessionAnswer, AllocError>
         ensures called { IfOk result
             (λ a. Called
             (insert_refused (table_named table.now publisher.old.tables) self.old.tx row.now
@@ -83,13 +83,13 @@ impl Session {
         ensures grows { Grows publisher.old.log publisher.new.log }
     {
         let Some(table) = publisher.catalog().named(table.as_str()) else {
-            return Ok(Answer::Session(SessionFault::UnknownTable));
+            return Ok(SessionAnswer::Refused(SessionFault::UnknownTable));
         };
         let row = row_of(alloc, table.columns.as_slice(), row)?;
         let oid = table.oid;
         match publisher.insert(rt, &mut self.tx, oid, row) {
-            Ok(()) => return Ok(Answer::Done),
-            Err(fault) => return Ok(Answer::Session(fault)),
+            Ok(()) => return Ok(SessionAnswer::Done),
+            Err(fault) => return Ok(SessionAnswer::Refused(fault)),
         }
     }
 
@@ -102,7 +102,7 @@ impl Session {
         table: &Text,
         key: &[Literal],
         row: &[Literal],
-    ) -> Result<Answer, AllocError>
+    ) -> Result<SessionAnswer, AllocError>
         ensures called { IfOk result
             (λ a. Called
             (update_refused (table_named table.now publisher.old.tables) self.old.tx key.now
@@ -116,14 +116,14 @@ impl Session {
         ensures grows { Grows publisher.old.log publisher.new.log }
     {
         let Some(table) = publisher.catalog().named(table.as_str()) else {
-            return Ok(Answer::Session(SessionFault::UnknownTable));
+            return Ok(SessionAnswer::Refused(SessionFault::UnknownTable));
         };
         let key = key_of(alloc, table.columns.as_slice(), key)?;
         let row = row_of(alloc, table.columns.as_slice(), row)?;
         let oid = table.oid;
         match publisher.update(rt, &mut self.tx, oid, &key, row) {
-            Ok(()) => return Ok(Answer::Done),
-            Err(fault) => return Ok(Answer::Session(fault)),
+            Ok(()) => return Ok(SessionAnswer::Done),
+            Err(fault) => return Ok(SessionAnswer::Refused(fault)),
         }
     }
 
@@ -134,7 +134,7 @@ impl Session {
         alloc: Global,
         table: &Text,
         key: &[Literal],
-    ) -> Result<Answer, AllocError>
+    ) -> Result<SessionAnswer, AllocError>
         ensures called { IfOk result
             (λ a. Called
             (delete_refused (table_named table.now publisher.old.tables) self.old.tx key.now
@@ -148,13 +148,13 @@ impl Session {
         ensures grows { Grows publisher.old.log publisher.new.log }
     {
         let Some(table) = publisher.catalog().named(table.as_str()) else {
-            return Ok(Answer::Session(SessionFault::UnknownTable));
+            return Ok(SessionAnswer::Refused(SessionFault::UnknownTable));
         };
         let key = key_of(alloc, table.columns.as_slice(), key)?;
         let oid = table.oid;
         match publisher.delete(rt, &mut self.tx, oid, &key) {
-            Ok(()) => return Ok(Answer::Done),
-            Err(fault) => return Ok(Answer::Session(fault)),
+            Ok(()) => return Ok(SessionAnswer::Done),
+            Err(fault) => return Ok(SessionAnswer::Refused(fault)),
         }
     }
 
@@ -164,7 +164,7 @@ impl Session {
         publisher: &mut Publisher<L>,
         alloc: Global,
         names: &[Text],
-    ) -> Result<Answer, AllocError>
+    ) -> Result<SessionAnswer, AllocError>
         ensures called { IfOk result
             (λ a. Called
             (truncate_refused (oids_named publisher.old.tables names.now) self.old.tx
@@ -176,11 +176,11 @@ impl Session {
         ensures grows { Grows publisher.old.log publisher.new.log }
     {
         let Some(oids) = oids_of(alloc, publisher.catalog(), names)? else {
-            return Ok(Answer::Session(SessionFault::UnknownTable));
+            return Ok(SessionAnswer::Refused(SessionFault::UnknownTable));
         };
         match publisher.truncate(rt, &mut self.tx, oids.as_slice()) {
-            Ok(()) => return Ok(Answer::Done),
-            Err(fault) => return Ok(Answer::Session(fault)),
+            Ok(()) => return Ok(SessionAnswer::Done),
+            Err(fault) => return Ok(SessionAnswer::Refused(fault)),
         }
     }
 
@@ -190,7 +190,7 @@ impl Session {
         publisher: &mut Publisher<L>,
         prefix: &Text,
         content: &Text,
-    ) -> Answer
+    ) -> SessionAnswer
         ensures called { Called (message_refusal self.old.tx prefix.now content.now publisher.old)
             (after_change self.old.tx
             (message_with prefix.now content.now) publisher.old) publisher.old
@@ -200,20 +200,24 @@ impl Session {
     {
         let content = content.as_str().as_bytes();
         match publisher.message(rt, &mut self.tx, prefix.as_str(), content) {
-            Ok(()) => return Answer::Done,
-            Err(fault) => return Answer::Session(fault),
+            Ok(()) => return SessionAnswer::Done,
+            Err(fault) => return SessionAnswer::Refused(fault),
         }
     }
 
-    fn savepoint<L: LogName, R: Wait>(&mut self, rt: &R, publisher: &mut Publisher<L>) -> Answer
+    fn savepoint<L: LogName, R: Wait>(
+        &mut self,
+        rt: &R,
+        publisher: &mut Publisher<L>,
+    ) -> SessionAnswer
         ensures called { Called (savepoint_refusal self.old.tx publisher.old)
             (after_savepoint self.old.tx publisher.old) publisher.old result publisher.new }
         ensures same { self.new ≡ self.old }
         ensures grows { Grows publisher.old.log publisher.new.log }
     {
         match publisher.savepoint(rt, &mut self.tx) {
-            Ok(_) => return Answer::Done,
-            Err(fault) => return Answer::Session(fault),
+            Ok(_) => return SessionAnswer::Done,
+            Err(fault) => return SessionAnswer::Refused(fault),
         }
     }
 
@@ -222,27 +226,27 @@ impl Session {
         rt: &R,
         publisher: &mut Publisher<L>,
         depth: u32,
-    ) -> Answer
+    ) -> SessionAnswer
         ensures called { Called (rollback_refusal self.old.tx depth publisher.old)
             (after_rollback self.old.tx depth publisher.old) publisher.old result publisher.new }
         ensures same { self.new ≡ self.old }
         ensures grows { Grows publisher.old.log publisher.new.log }
     {
         match publisher.rollback_to(rt, &mut self.tx, depth) {
-            Ok(()) => return Answer::Done,
-            Err(fault) => return Answer::Session(fault),
+            Ok(()) => return SessionAnswer::Done,
+            Err(fault) => return SessionAnswer::Refused(fault),
         }
     }
 
-    fn release<L: LogName>(&mut self, publisher: &mut Publisher<L>, depth: u32) -> Answer
+    fn release<L: LogName>(&mut self, publisher: &mut Publisher<L>, depth: u32) -> SessionAnswer
         ensures called { Called (release_refusal self.old.tx depth publisher.old)
             (after_release self.old.tx depth publisher.old) publisher.old result publisher.new }
         ensures same { self.new ≡ self.old }
         ensures grows { Grows publisher.old.log publisher.new.log }
     {
         match publisher.release(&mut self.tx, depth) {
-            Ok(()) => return Answer::Done,
-            Err(fault) => return Answer::Session(fault),
+            Ok(()) => return SessionAnswer::Done,
+            Err(fault) => return SessionAnswer::Refused(fault),
         }
     }
 

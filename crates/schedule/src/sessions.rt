@@ -9,8 +9,8 @@ ghost use Rattle.schedule.specs.Sessions.{Grows};
 use crate::calls::{call, is_known, note};
 use crate::event::{Event, SessionStep};
 use crate::fault::WorldFault;
-use crate::printed::answer::Answer;
 use crate::session::{Session, leave_all};
+use crate::session_answer::SessionAnswer;
 use pqformat::Text;
 use shared_log::LogName;
 use std::alloc::Global;
@@ -80,7 +80,7 @@ impl Sessions {
         rt: &R,
         publisher: &mut Publisher<L>,
         event: &Event,
-    ) -> Result<(Answer, Option<Receipt<L>>), WorldFault>
+    ) -> Result<(SessionAnswer, Option<Receipt<L>>), WorldFault>
         ensures done { IfOk result
             (λ made. IsLine event.now (state_of publisher.old self.old) made.0
             (state_of publisher.new self.new)) }
@@ -110,7 +110,7 @@ impl Sessions {
         publisher: &mut Publisher<L>,
         name: &Text,
         step: &SessionStep,
-    ) -> Result<(Answer, Option<Receipt<L>>), WorldFault>
+    ) -> Result<(SessionAnswer, Option<Receipt<L>>), WorldFault>
         ensures done { IfOk result
             (λ made. IsCalled (step_ask name.now step.now publisher.old self.old)
             (state_of publisher.old self.old) made.0 (state_of publisher.new self.new)) }

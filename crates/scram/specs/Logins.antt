@@ -11,7 +11,7 @@ use Rattle.scram.specs.Exchanges.{HasProved, begun, challenge, verdict}
 use Rattle.scram.specs.declared.fault.ExchangeFault.{ExchangeFault}
 use Rattle.scram.specs.declared.fault.ExchangeFault.TheVariants.{NoMechanism, Mechanism, Short, Trailing, Password}
 use Rattle.scram.specs.declared.server_side.server_exchange.Exchange.{Exchange}
-use Rattle.scram.specs.declared.server_side.login.Asked.{Asked}
+use Rattle.scram.specs.declared.server_side.login.ProofRequest.{ProofRequest}
 use Rattle.scram.specs.declared.server_side.login.Login.{Login}
 use Rattle.scram.specs.declared.server_side.login.Login.TheVariants.{Offered, Chosen, Challenged}
 use Rattle.scram.specs.declared.server_side.login.Reply.{Reply}
@@ -31,10 +31,10 @@ initial_of body =
     if not (bytes_eq mechanism.0 (codes "SCRAM-SHA-256")) then Err Mechanism
     else (ok_or (number_at w32 mechanism.1) Short >>= λ count. text_of count.0 count.1)
 
-abbrev pub begins : Asked → List ℕ → Result Reply ExchangeFault
+abbrev pub begins : ProofRequest → List ℕ → Result Reply ExchangeFault
 begins asked text = begun asked.account asked.nonce text >>= λ exchange. Ok (Continue (challenge exchange) (Challenged exchange))
 
-abbrev pub after_choice : Asked → Option (List ℕ) → Result Reply ExchangeFault
+abbrev pub after_choice : ProofRequest → Option (List ℕ) → Result Reply ExchangeFault
 after_choice asked (Some text) = begins asked text
 after_choice asked None = Ok (Continue [] (Chosen asked))
 

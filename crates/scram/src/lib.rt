@@ -28,7 +28,7 @@ pub use hashes::hmac::{DIGEST_BYTES, hmac_sha256};
 pub use hashes::pbkdf2::salted_password;
 pub use saslprep::prepared;
 pub use server_side::account::Account;
-pub use server_side::login::{Asked, Login, MECHANISM, MOST_BODY_BYTES, Reply};
+pub use server_side::login::{Login, MECHANISM, MOST_BODY_BYTES, ProofRequest, Reply};
 pub use server_side::server_exchange::Exchange;
 pub use server_side::user_line::line_of_user;
 pub use server_side::verifier::{ROUNDS, SALT_BYTES, Verifier};

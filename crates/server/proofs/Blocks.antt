@@ -8,7 +8,7 @@ use Rattle.frames.specs.declared.copy_data.CopyData.{CopyData}
 use Rattle.frames.specs.declared.frontend.copy_fail.CopyFail.{CopyFail}
 use Rattle.replcmd.specs.declared.command.Command.{Command}
 use Rattle.replcmd.specs.declared.command.Command.TheVariants as commands
-use Rattle.replcmd.specs.declared.clauses.snapshot.Snapshot.TheVariants as snapshots
+use Rattle.replcmd.specs.declared.clauses.snapshot_clause.SnapshotClause.TheVariants as snapshots
 use Rattle.replcmd.specs.declared.clauses.strictness.Strictness.TheVariants.{Lenient}
 use Rattle.replcmd.specs.declared.fault.CmdFault.{CmdFault}
 use Rattle.replcmd.specs.declared.fault.CmdFault.TheVariants.{Memory}

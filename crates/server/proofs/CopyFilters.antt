@@ -19,18 +19,18 @@ pub filtered_no_columns : (text : List ℕ) → ((columns : List (List ℕ)) (ot
 filtered_no_columns text none copy stands = none copy.columns (codes " FROM ONLY " ++ (stands.table ++ (codes " WHERE " ++ stands.filter))) (columns_at text copy stands) (ends_columns (stands.table ++ (codes " WHERE " ++ stands.filter)))
 
 -- what follows the columns
-behind_columns : (text : List ℕ) (columns : List (List ℕ)) (rest : List ℕ) → Read (SomeColumnsAt text) EndsColumns columns rest → (copy : CopyCommand) (stands : FilteredAt text copy)
+after_columns : (text : List ℕ) (columns : List (List ℕ)) (rest : List ℕ) → Read (SomeColumnsAt text) EndsColumns columns rest → (copy : CopyCommand) (stands : FilteredAt text copy)
     → rest ≡ codes " FROM ONLY " ++ (stands.table ++ (codes " WHERE " ++ stands.filter))
-behind_columns text columns rest names copy stands = (names.once copy.columns (codes " FROM ONLY " ++ (stands.table ++ (codes " WHERE " ++ stands.filter))) (columns_at text copy stands) (ends_columns (stands.table ++ (codes " WHERE " ++ stands.filter)))).1
+after_columns text columns rest names copy stands = (names.once copy.columns (codes " FROM ONLY " ++ (stands.table ++ (codes " WHERE " ++ stands.filter))) (columns_at text copy stands) (ends_columns (stands.table ++ (codes " WHERE " ++ stands.filter)))).1
 
 pub filtered_no_from : (text : List ℕ) (columns : List (List ℕ)) (rest : List ℕ) → Read (SomeColumnsAt text) EndsColumns columns rest → ((more : List ℕ) → rest ≢ codes " FROM ONLY " ++ more)
     → (copy : CopyCommand) → FilteredAt text copy → ⊥
-filtered_no_from text columns rest names dry copy stands = dry (stands.table ++ (codes " WHERE " ++ stands.filter)) (behind_columns text columns rest names copy stands)
+filtered_no_from text columns rest names dry copy stands = dry (stands.table ++ (codes " WHERE " ++ stands.filter)) (after_columns text columns rest names copy stands)
 
 table_at : (text : List ℕ) (columns : List (List ℕ)) (rest named : List ℕ) → Read (SomeColumnsAt text) EndsColumns columns rest → rest ≡ codes " FROM ONLY " ++ named
     → (copy : CopyCommand) (stands : FilteredAt text copy) → TableAt named copy.table (codes " WHERE " ++ stands.filter)
 table_at text columns rest named names from copy stands =
-    (stands.table, stands.spells_table, append_cancel_left (codes " FROM ONLY ") named (stands.table ++ (codes " WHERE " ++ stands.filter)) (sym from ∙ behind_columns text columns rest names copy stands))
+    (stands.table, stands.spells_table, append_cancel_left (codes " FROM ONLY ") named (stands.table ++ (codes " WHERE " ++ stands.filter)) (sym from ∙ after_columns text columns rest names copy stands))
 
 pub filtered_no_table : (text : List ℕ) (columns : List (List ℕ)) (rest named : List ℕ) → Read (SomeColumnsAt text) EndsColumns columns rest → rest ≡ codes " FROM ONLY " ++ named
     → ((table : TableName) (other : List ℕ) → TableAt named table other → EndsName other → ⊥) → (copy : CopyCommand) → FilteredAt text copy → ⊥

@@ -134,12 +134,12 @@ pub whole_no_table : (text rest : List ℕ) → text ≡ codes "COPY " ++ rest �
 whole_no_table text rest is none copy stands = none copy.table (codes " (" ++ stands.columns) (named_at text rest copy is stands) (bracket stands.columns)
 
 -- what follows the table
-behind_table : (text rest : List ℕ) (table : TableName) (left : List ℕ) → text ≡ codes "COPY " ++ rest → Read (TableAt rest) EndsName table left → (copy : CopyCommand) (stands : WholeAt text copy) → left ≡ codes " (" ++ stands.columns
-behind_table text rest table left is read copy stands = (read.once copy.table (codes " (" ++ stands.columns) (named_at text rest copy is stands) (bracket stands.columns)).1
+after_table : (text rest : List ℕ) (table : TableName) (left : List ℕ) → text ≡ codes "COPY " ++ rest → Read (TableAt rest) EndsName table left → (copy : CopyCommand) (stands : WholeAt text copy) → left ≡ codes " (" ++ stands.columns
+after_table text rest table left is read copy stands = (read.once copy.table (codes " (" ++ stands.columns) (named_at text rest copy is stands) (bracket stands.columns)).1
 
 pub whole_no_bracket : (text rest : List ℕ) (table : TableName) (left : List ℕ) → text ≡ codes "COPY " ++ rest → Read (TableAt rest) EndsName table left → ((more : List ℕ) → left ≢ codes " (" ++ more)
     → (copy : CopyCommand) → WholeAt text copy → ⊥
-whole_no_bracket text rest table left is read dry copy stands = dry stands.columns (behind_table text rest table left is read copy stands)
+whole_no_bracket text rest table left is read dry copy stands = dry stands.columns (after_table text rest table left is read copy stands)
 
 none_left : EndsColumns []
 none_left = record { name = record { quote = refl; byte = refl }; comma = refl }
@@ -147,7 +147,7 @@ none_left = record { name = record { quote = refl; byte = refl }; comma = refl }
 columns_at : (text rest : List ℕ) (table : TableName) (left list : List ℕ) → text ≡ codes "COPY " ++ rest → Read (TableAt rest) EndsName table left → left ≡ codes " (" ++ list
     → (copy : CopyCommand) → WholeAt text copy → SomeColumnsAt list copy.columns []
 columns_at text rest table left list is read opens copy stands =
-    (stands.few, (stands.columns, stands.spells_columns, append_cancel_left (codes " (") list stands.columns (sym opens ∙ behind_table text rest table left is read copy stands) ∙ sym (append-nil stands.columns)))
+    (stands.few, (stands.columns, stands.spells_columns, append_cancel_left (codes " (") list stands.columns (sym opens ∙ after_table text rest table left is read copy stands) ∙ sym (append-nil stands.columns)))
 
 pub whole_no_columns : (text rest : List ℕ) (table : TableName) (left list : List ℕ) → text ≡ codes "COPY " ++ rest → Read (TableAt rest) EndsName table left → left ≡ codes " (" ++ list
     → ((columns : List (List ℕ)) (other : List ℕ) → SomeColumnsAt list columns other → EndsColumns other → ⊥) → (copy : CopyCommand) → WholeAt text copy → ⊥

@@ -9,7 +9,7 @@ use Rattle.std.proofs.lemmas.List.{length-append, length-drop, map-append}
 use Rattle.pqformat.specs.Putting.{Puts}
 use Rattle.frames.specs.declared.back.Back.{Back}
 use Rattle.frames.specs.declared.back.Back.TheVariants.{CopyData, CopyDone, ReadyForQuery}
-use Rattle.frames.specs.declared.backend.ready_for_query.Status.TheVariants as statuses
+use Rattle.frames.specs.declared.backend.ready_for_query.TransactionStatus.TheVariants as statuses
 use Rattle.server.specs.declared.refusal.Refusal.TheVariants.{Asked}
 use Rattle.server.specs.Blocks.{given}
 use Rattle.server.specs.Refusals.{refusal_code, refusal_text}
@@ -19,7 +19,7 @@ use Rattle.server.specs.declared.backend_fault.BackendFault.{BackendFault}
 use Rattle.server.specs.declared.sessions.block.Block.{Block}
 use Rattle.server.specs.declared.connection.Connection.{Connection}
 use Rattle.server.specs.declared.stages.copying.Copying.{Copying}
-use Rattle.server.specs.declared.service.Service.{Service}
+use Rattle.server.specs.declared.connection_terms.ConnectionTerms.{ConnectionTerms}
 use Rattle.server.specs.declared.stages.stage.Stage.{Stage}
 use Rattle.server.specs.declared.stages.stage.Stage.TheVariants as stages
 use Rattle.server.specs.declared.stages.stage.Turned.{Turned}
@@ -53,11 +53,11 @@ taken_less old new count some le is =
 pub copied_less : (old new : Connection) → rows_left new.stage < rows_left old.stage → new.pending.items ≡ old.pending.items → most_turns new < most_turns old
 copied_less old new less is = omega (arith, ap length is)
 
-pub turned_less : (service : Service) (stage : Stage) (pending : List ℕ) (t : Turned) (Same : Type 0) (Step : (List Call → List ℕ → Type 0) → Type 0) → IsTurned service stage pending t Same Step → 0 < t.count → t.count ≤ length pending
+pub turned_less : (service : ConnectionTerms) (stage : Stage) (pending : List ℕ) (t : Turned) (Same : Type 0) (Step : (List Call → List ℕ → Type 0) → Type 0) → IsTurned service stage pending t Same Step → 0 < t.count → t.count ≤ length pending
 turned_less service stage pending t Same Step (inl x) some = absurd (omega (arith, x.0))
 turned_less service stage pending t Same Step (inr x) some = x.1
 
-pub turned_waits : (service : Service) (stage : Stage) (pending : List ℕ) (t : Turned) (Same : Type 0) (Step : (List Call → List ℕ → Type 0) → Type 0) → IsTurned service stage pending t Same Step → t.count ≡ 0 → (t.stage ≡ stage) × Waits stage pending
+pub turned_waits : (service : ConnectionTerms) (stage : Stage) (pending : List ℕ) (t : Turned) (Same : Type 0) (Step : (List Call → List ℕ → Type 0) → Type 0) → IsTurned service stage pending t Same Step → t.count ≡ 0 → (t.stage ≡ stage) × Waits stage pending
 turned_waits service stage pending t Same Step (inl x) none = (x.1, x.2)
 turned_waits service stage pending t Same Step (inr x) none = absurd (omega (arith, x.0))
 
@@ -74,7 +74,7 @@ copied_some (stages.Stopping database) asked said next copies = absurd copies
 copied_some stages.Closed asked said next copies = absurd copies
 
 -- it is one of the conversation
-copied_turn : (service : Service) (stage : Stage) (asked : List Call) (said : List ℕ) (next : Stage) → CopiesFrom stage asked said next → IsTurn service stage (record { text = []; asked = asked; said = said }) next
+copied_turn : (service : ConnectionTerms) (stage : Stage) (asked : List Call) (said : List ℕ) (next : Stage) → CopiesFrom stage asked said next → IsTurn service stage (record { text = []; asked = asked; said = said }) next
 copied_turn service (stages.Copying copying) asked said next copies = (refl, copies)
 copied_turn service stages.Fresh asked said next copies = absurd copies
 copied_turn service (stages.Idle database) asked said next copies = absurd copies
@@ -92,7 +92,7 @@ copied_went told old backend out new backend' out' service pending gave =
     let some = copied_some old.stage gave.asked gave.text new.stage gave.fact in
     went-one told HasCause [] old backend out new backend' out' (record { text = []; asked = gave.asked; said = gave.text }) (omega (arith, some)) service (copied_turn old.service old.stage gave.asked gave.text new.stage gave.fact) (append-nil old.pending.items ∙ sym pending) gave.asks gave.says
 
-pub copied_tried : {D : Type 0} (told : D → Call → D → Type 0) (service : Service) (stage : Stage) (pending : List ℕ) (backend backend' : D)
+pub copied_tried : {D : Type 0} (told : D → Call → D → Type 0) (service : ConnectionTerms) (stage : Stage) (pending : List ℕ) (backend backend' : D)
     → Tried told (λ asked. (next : Stage) × (text : List ℕ) × CopiesFrom stage asked text next) backend backend'
     → Tried told (Asks service stage pending) backend backend'
 copied_tried told service stage pending backend backend' tried =

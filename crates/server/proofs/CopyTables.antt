@@ -8,7 +8,7 @@ use Rattle.server.specs.Copies.{SpellsName, name_front}
 use Rattle.server.specs.CopyReading.{EndsName, Read, TableAt}
 use Rattle.server.specs.declared.asked.table_name.TableName.{TableName}
 use Rattle.server.proofs.CopyNames.{Named, name_once, name_read, no_name}
-use Rattle.server.proofs.Lists.{behind_text}
+use Rattle.server.proofs.Lists.{after_text}
 
 abbrev table_of : List ℕ → List ℕ → TableName
 table_of schema name = record { schema = schema; name = name }
@@ -76,7 +76,7 @@ table_read text schema rest named name end read is then valid = record { stands 
     )
 
     left : IsUtf8 end
-    left = n.text (behind_text (codes ".") named refl (subst IsUtf8 is (s.text valid)))
+    left = n.text (after_text (codes ".") named refl (subst IsUtf8 is (s.text valid)))
 
     once : (table : TableName) (other : List ℕ) → TableAt text table other → EndsName other → (table_of schema name ≡ table) × (end ≡ other)
     once table other it ends =

@@ -69,12 +69,12 @@ goes_on end text names place name rest more closes going read comma = record { o
     on : (others : List (List ℕ)) → SpellsNames end more others → SpellsNames end text ((names ++ name ∷ []) ++ others)
     on others spells = subst (λ (l : List (List ℕ)). SpellsNames end text l) (sym (append_assoc names (name ∷ []) others)) (going.on (name ∷ others) (longer others spells))
 
-    behind_comma : (a b : List ℕ) → codes ", " ++ a ≡ codes ", " ++ b → a ≡ b
-    behind_comma a b e = append_cancel_left (codes ", ") a b e
+    after_comma : (a b : List ℕ) → codes ", " ++ a ≡ codes ", " ++ b → a ≡ b
+    after_comma a b e = append_cancel_left (codes ", ") a b e
 
     after_first : (ns : List (List ℕ)) (other : List ℕ) → rest ≡ other → SpellsFurther end other ns → SpellsNames end more ns
     after_first [] other same is = absurd (comma_apart end more closes (sym comma ∙ same ∙ is))
-    after_first (m ∷ ms) other same (literal, then, spells, is, further) = (literal, then, spells, behind_comma more (literal ++ then) (sym comma ∙ same ∙ is), further)
+    after_first (m ∷ ms) other same (literal, then, spells, is, further) = (literal, then, spells, after_comma more (literal ++ then) (sym comma ∙ same ∙ is), further)
 
     shorter : (n : List ℕ) (ns : List (List ℕ)) → SpellsNames end place (n ∷ ns) → (name ≡ n) × SpellsNames end more ns
     shorter n ns spells =
@@ -143,20 +143,20 @@ names_once end list (n ∷ ns) (m ∷ ms) closes x y =
     both n m ns ms same.0 (further_once end p.0 ns ms closes p.2 (subst (λ (l : List ℕ). SpellsFurther end l ms) (sym same.1) q.2))
 
 -- what follows ASCII is a text
-pub behind_text : (front rest : List ℕ) → list_all (λ b. nat_lt b 128) front ≡ true → IsUtf8 (front ++ rest) → IsUtf8 rest
-behind_text [] rest ascii valid = valid
-behind_text (b ∷ bytes) rest ascii valid =
+pub after_text : (front rest : List ℕ) → list_all (λ b. nat_lt b 128) front ≡ true → IsUtf8 (front ++ rest) → IsUtf8 rest
+after_text [] rest ascii valid = valid
+after_text (b ∷ bytes) rest ascii valid =
     let x = both (nat_lt b 128) (list_all (λ c. nat_lt c 128) bytes) ascii in
-    behind_text bytes rest x.1 (behind_ascii b (bytes ++ rest) (ltb-true b 128 x.0) valid)
+    after_text bytes rest x.1 (behind_ascii b (bytes ++ rest) (ltb-true b 128 x.0) valid)
   where
     both : (p q : Bool) → (p && q) ≡ true → (p ≡ true) × (q ≡ true)
     both true q e = (refl, e)
     both false q e = absurd cc
 
 -- the same of a list that stands after a front
-pub list_behind : (text front end list : List ℕ) (r : Result (Option (List (List ℕ))) AllocError) → text ≡ front ++ list
+pub list_after : (text front end list : List ℕ) (r : Result (Option (List (List ℕ))) AllocError) → text ≡ front ++ list
     → IfOk r (λ found. MatchOption found ((names : List (List ℕ)) → SpellsNames end list names → ⊥) (λ names. SpellsNames end list names))
     → IfOk r (λ found. MatchOption found ((names : List (List ℕ)) → SpellsListed text front end names → ⊥) (λ names. SpellsListed text front end names))
-list_behind text front end list (Err e) is fact = tt
-list_behind text front end list (Ok None) is fact = λ names spells. fact names (subst (λ (l : List ℕ). SpellsNames end l names) (sym (append_cancel_left front list spells.0 (sym is ∙ spells.1))) spells.2)
-list_behind text front end list (Ok (Some names)) is fact = (list, is, fact)
+list_after text front end list (Err e) is fact = tt
+list_after text front end list (Ok None) is fact = λ names spells. fact names (subst (λ (l : List ℕ). SpellsNames end l names) (sym (append_cancel_left front list spells.0 (sym is ∙ spells.1))) spells.2)
+list_after text front end list (Ok (Some names)) is fact = (list, is, fact)

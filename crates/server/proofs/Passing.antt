@@ -9,7 +9,7 @@ use Rattle.frames.specs.declared.front.Front.{Front}
 use Rattle.frames.specs.Frame.{Gives}
 use Rattle.frames.specs.Front.{SpellsFront, IsShortFront, framed_front}
 use Rattle.server.specs.declared.asked.extended.Extended.{Extended}
-use Rattle.server.specs.declared.service.Service.{Service}
+use Rattle.server.specs.declared.connection_terms.ConnectionTerms.{ConnectionTerms}
 use Rattle.server.specs.declared.stages.stage.Stage.{Stage}
 use Rattle.server.specs.declared.stages.stage.Stage.TheVariants.{Closed}
 use Rattle.server.specs.declared.stages.stage.Turned.{Turned}
@@ -36,13 +36,13 @@ some_if_extended (b ∷ bytes) is = omega arith
 
 -- ---- a turn that says this
 
-pub said_turned : (service : Service) (stage : Stage) (pending : List ℕ) (count : ℕ) (next : Stage) (Same : Type 0) (out out' : List ℕ) (Fact : List Call → List ℕ → Type 0)
+pub said_turned : (service : ConnectionTerms) (stage : Stage) (pending : List ℕ) (count : ℕ) (next : Stage) (Same : Type 0) (out out' : List ℕ) (Fact : List Call → List ℕ → Type 0)
     → 0 < count → count ≤ length pending
     → ((asked : List Call) (said : List ℕ) → Fact asked said → IsTurn service stage (record { text = take count pending; asked = asked; said = said }) next)
     → Said Fact out out' → IsTurned service stage pending (record { stage = next; count = count }) Same (λ fact. Said fact out out')
 said_turned service stage pending count next Same out out' Fact some le turn said = inr (some, le, record { text = said.text; fact = turn [] said.text said.fact; says = said.says })
 
-pub said_refused : (service : Service) (stage : Stage) (pending : List ℕ) (fault : FrameFault) (out out' : List ℕ) (r : Result Turned AllocError)
+pub said_refused : (service : ConnectionTerms) (stage : Stage) (pending : List ℕ) (fault : FrameFault) (out out' : List ℕ) (r : Result Turned AllocError)
     → (fault ≢ Memory → 0 < length pending) → (fault ≢ Memory → IsTurn service stage (record { text = take (length pending) pending; asked = []; said = error_of_refusal (refusal_of fault) }) Closed)
     → OnOk r (fault ≢ Memory) → IfOk r (λ t. t ≡ record { stage = Closed; count = length pending }) → OnOk r (out' ≡ out ++ error_of_refusal (refusal_of fault))
     → IfOk r (λ t. IsTurned service stage pending t (out' ≡ out) (λ fact. Said fact out out'))
@@ -53,7 +53,7 @@ said_refused service stage pending fault out out' (Err e) some turn other is say
 
 -- ---- by the frame
 
-pub extended_turned : (service : Service) (stage : Stage) (Answers : Extended → List Call → List ℕ → Stage → Type 0) (pending : List ℕ) (count : ℕ) (e : Extended) (next : Stage) (Same : Type 0) (out out' : List ℕ)
+pub extended_turned : (service : ConnectionTerms) (stage : Stage) (Answers : Extended → List Call → List ℕ → Stage → Type 0) (pending : List ℕ) (count : ℕ) (e : Extended) (next : Stage) (Same : Type 0) (out out' : List ℕ)
     → ((t : Turn) (n : Stage) → is_extended t.text ≡ true → IsExtendedTurn Answers t n → IsTurn service stage t n)
     → is_extended pending ≡ true → 0 < count → count ≤ length pending → SpellsExtended (take count pending) e
     → Said (λ asked said. Answers e asked said next) out out' → IsTurned service stage pending (record { stage = next; count = count }) Same (λ fact. Said fact out out')
@@ -61,7 +61,7 @@ extended_turned service stage Answers pending count e next Same out out' turn is
     said_turned service stage pending count next Same out out' (λ asked said. Answers e asked said next) some le
     (λ asked said fact. turn (record { text = take count pending; asked = asked; said = said }) next (same_kind count pending some ∙ is) (inl (e, spells, fact))) said
 
-pub extended_refused : (service : Service) (stage : Stage) (Answers : Extended → List Call → List ℕ → Stage → Type 0) (pending : List ℕ) (fault : FrameFault) (out out' : List ℕ) (r : Result Turned AllocError)
+pub extended_refused : (service : ConnectionTerms) (stage : Stage) (Answers : Extended → List Call → List ℕ → Stage → Type 0) (pending : List ℕ) (fault : FrameFault) (out out' : List ℕ) (r : Result Turned AllocError)
     → ((t : Turn) (n : Stage) → is_extended t.text ≡ true → IsExtendedTurn Answers t n → IsTurn service stage t n)
     → is_extended pending ≡ true → framed_extended pending ≡ Err fault
     → OnOk r (fault ≢ Memory) → IfOk r (λ t. t ≡ record { stage = Closed; count = length pending }) → OnOk r (out' ≡ out ++ error_of_refusal (refusal_of fault))
@@ -70,7 +70,7 @@ extended_refused service stage Answers pending fault out out' r turn is read oth
     said_refused service stage pending fault out out' r (λ _. some_if_extended pending is)
     (λ _. turn (record { text = take (length pending) pending; asked = []; said = error_of_refusal (refusal_of fault) }) Closed (ap is_extended (all_of pending) ∙ is) (inr (fault, ap framed_extended (all_of pending) ∙ read, (refl, refl, refl)))) other closes says
 
-pub front_passed : (service : Service) (stage : Stage) (Answers : Front → List Call → List ℕ → Stage → Type 0) (pending : List ℕ) (count : ℕ) (front : Front) (next : Stage) (Same : Type 0) (out out' : List ℕ)
+pub front_passed : (service : ConnectionTerms) (stage : Stage) (Answers : Front → List Call → List ℕ → Stage → Type 0) (pending : List ℕ) (count : ℕ) (front : Front) (next : Stage) (Same : Type 0) (out out' : List ℕ)
     → ((t : Turn) (n : Stage) → is_extended t.text ≡ false → IsFrameTurn Answers t n → IsTurn service stage t n)
     → is_extended pending ≡ false → count ≤ length pending → SpellsFront (take count pending) front → IsShortFront front
     → Answers front [] [] next → out' ≡ out → IsTurned service stage pending (record { stage = next; count = count }) Same (λ fact. Said fact out out')
@@ -80,7 +80,7 @@ front_passed service stage Answers pending count front next Same out out' turn i
     (λ asked said fact. turn (record { text = take count pending; asked = asked; said = said }) next (same_kind count pending some ∙ is) (inl (front, spells, short, rw (fact.0, fact.1) passes)))
     (record { text = []; fact = (refl, refl); says = same ∙ sym (append-nil out) })
 
-pub front_refused_quietly : (service : Service) (stage : Stage) (Answers : Front → List Call → List ℕ → Stage → Type 0) (pending : List ℕ) (fault : FrameFault) (out out' : List ℕ) (r : Result Turned AllocError)
+pub front_refused_quietly : (service : ConnectionTerms) (stage : Stage) (Answers : Front → List Call → List ℕ → Stage → Type 0) (pending : List ℕ) (fault : FrameFault) (out out' : List ℕ) (r : Result Turned AllocError)
     → ((t : Turn) (n : Stage) → is_extended t.text ≡ false → IsFrameTurn Answers t n → IsTurn service stage t n)
     → is_extended pending ≡ false → Gives (Err fault) (framed_front pending)
     → OnOk r (fault ≢ Memory) → IfOk r (λ t. t ≡ record { stage = Closed; count = length pending }) → OnOk r (out' ≡ out ++ error_of_refusal (refusal_of fault))

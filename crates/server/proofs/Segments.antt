@@ -4,11 +4,11 @@ use Rattle.std.specs.Prelude.{◌≢◌, ◌⊎◌}
 use Rattle.std.specs.List.{flat_map, AllByRecursion}
 use Rattle.std.proofs.lemmas.Grind.{flat_map-append}
 use Rattle.std.proofs.lemmas.List.{append-nil, take_more}
-use Rattle.server.specs.declared.service.Service.{Service}
+use Rattle.server.specs.declared.connection_terms.ConnectionTerms.{ConnectionTerms}
 use Rattle.server.specs.declared.connection.Connection.{Connection}
 use Rattle.server.specs.declared.connection.Phase.TheVariants as phases
-use Rattle.server.specs.declared.conversation.Event.{Event}
-use Rattle.server.specs.declared.conversation.Event.TheVariants.{Came, AllSent}
+use Rattle.server.specs.declared.conversation.ConnectionEvent.{ConnectionEvent}
+use Rattle.server.specs.declared.conversation.ConnectionEvent.TheVariants.{Came, AllSent}
 use Rattle.server.specs.declared.fault.ConnFault.{ConnFault}
 use Rattle.server.specs.declared.fault.ConnFault.TheVariants as faults
 use Rattle.server.specs.declared.stages.stage.Stage.{Stage}
@@ -22,7 +22,7 @@ kind-append : (Kind : Turn → Type 0) (ts us : List Turn) → AllByRecursion Ki
 kind-append Kind [] us first then = then
 kind-append Kind (t ∷ ts) us first then = (first.0, kind-append Kind ts us first.1 then)
 
-turns-append : (service : Service) (a : Stage) (ts : List Turn) (b : Stage) (us : List Turn) (c : Stage) → AreTurns service a ts b → AreTurns service b us c → AreTurns service a (ts ++ us) c
+turns-append : (service : ConnectionTerms) (a : Stage) (ts : List Turn) (b : Stage) (us : List Turn) (c : Stage) → AreTurns service a ts b → AreTurns service b us c → AreTurns service a (ts ++ us) c
 turns-append service a [] b us c first then = subst (λ (s : Stage). AreTurns service s us c) first then
 turns-append service a (t ∷ ts) b us c first then = (first.0, first.1, turns-append service first.0 ts b us c first.2 then)
 
@@ -36,7 +36,7 @@ went-append told Kind x y a d out b e mid c f end first then = record {
   turns = first.turns ++ then.turns;
   kind = kind-append Kind first.turns then.turns first.kind then.kind;
   same = then.same ∙ first.same;
-  follow = turns-append a.service a.stage first.turns b.stage then.turns c.stage first.follow (subst (λ (s : Service). AreTurns s b.stage then.turns c.stage) first.same then.follow);
+  follow = turns-append a.service a.stage first.turns b.stage then.turns c.stage first.follow (subst (λ (s : ConnectionTerms). AreTurns s b.stage then.turns c.stage) first.same then.follow);
   spell =
       sym (append_assoc a.pending.items x y)
       ∙ ap (λ (l : List ℕ). l ++ y) first.spell
@@ -87,7 +87,7 @@ pub went-on : {D : Type 0} (told : D → Call → D → Type 0) (Kind : Turn →
     → Went told Kind x a d out b e mid → Went told Kind [] b e mid c f end → Went told Kind x a d out c f end
 went-on {D} told Kind x a d out b e mid c f end first then = subst (λ (l : List ℕ). Went told Kind l a d out c f end) (append-nil x) (went-append told Kind x [] a d out b e mid c f end first then)
 
-passes : (service : Service) (stage : Stage) (text : List ℕ) → stage ≡ Closed → IsTurn service stage (record { text = text; asked = []; said = [] }) stage
+passes : (service : ConnectionTerms) (stage : Stage) (text : List ℕ) → stage ≡ Closed → IsTurn service stage (record { text = text; asked = []; said = [] }) stage
 passes service stage text is = rw is (refl, refl, refl)
 
 -- what comes to a closed connection
@@ -115,7 +115,7 @@ went-any told x a d out b e end went = record { turns = went.turns; kind = are-a
 
 -- ---- from a new connection on
 
-pub record Began {D : Type 0} (told : D → Call → D → Type 0) (service : Service) (input : List ℕ) (backend : D) (out : List ℕ) (new : Connection) (backend' : D) (out' : List ℕ) : Type 0 where
+pub record Began {D : Type 0} (told : D → Call → D → Type 0) (service : ConnectionTerms) (input : List ℕ) (backend : D) (out : List ℕ) (new : Connection) (backend' : D) (out' : List ℕ) : Type 0 where
   pub old : Connection
   pub numbered : old.service ≡ service
   pub fresh : old.stage ≡ Fresh
@@ -123,7 +123,7 @@ pub record Began {D : Type 0} (told : D → Call → D → Type 0) (service : Se
   pub went : Went told IsAny input old backend out new backend' out'
   pub waits : HaveEnded service went.turns ⊎ Waits new.stage new.pending.items
 
-pub began : {D : Type 0} (told : D → Call → D → Type 0) (service : Service) (c : Connection) (backend : D) (out : List ℕ) → c.service ≡ service → c.stage ≡ Fresh → c.pending.items ≡ [] → Began told service [] backend out c backend out
+pub began : {D : Type 0} (told : D → Call → D → Type 0) (service : ConnectionTerms) (c : Connection) (backend : D) (out : List ℕ) → c.service ≡ service → c.stage ≡ Fresh → c.pending.items ≡ [] → Began told service [] backend out c backend out
 began told service c backend out numbered fresh empty = record {
   old = c;
   numbered = numbered;
@@ -133,7 +133,7 @@ began told service c backend out numbered fresh empty = record {
   waits = inr (rw (fresh, empty) refl);
 }
 
-began-took : {D : Type 0} (told : D → Call → D → Type 0) (service : Service) (x y : List ℕ) (d : D) (out : List ℕ) (b : Connection) (e : D) (mid : List ℕ) (c : Connection) (f : D) (end : List ℕ)
+began-took : {D : Type 0} (told : D → Call → D → Type 0) (service : ConnectionTerms) (x y : List ℕ) (d : D) (out : List ℕ) (b : Connection) (e : D) (mid : List ℕ) (c : Connection) (f : D) (end : List ℕ)
     → Began told service x d out b e mid → Went told HasCause y b e mid c f end → Waits c.stage c.pending.items → Began told service (x ++ y) d out c f end
 began-took told service x y d out b e mid c f end first then waits = record {
   old = first.old;
@@ -144,7 +144,7 @@ began-took told service x y d out b e mid c f end first then waits = record {
   waits = inr waits;
 }
 
-began-ended : {D : Type 0} (told : D → Call → D → Type 0) (service : Service) (x : List ℕ) (d : D) (out : List ℕ) (b : Connection) (e : D) (mid : List ℕ) (c : Connection) (end : List ℕ)
+began-ended : {D : Type 0} (told : D → Call → D → Type 0) (service : ConnectionTerms) (x : List ℕ) (d : D) (out : List ℕ) (b : Connection) (e : D) (mid : List ℕ) (c : Connection) (end : List ℕ)
     → Began told service x d out b e mid → Ended b mid c end → Began told service (x ++ []) d out c e end
 unfolding went-append went-ended went-one
 began-ended told service x d out b e mid c end first then = record {
@@ -153,7 +153,7 @@ began-ended told service x d out b e mid c end first then = record {
   fresh = first.fresh;
   empty = first.empty;
   went = went-append told IsAny x [] first.old d out b e mid c e end first.went (went-ended told b e mid c end then);
-  waits = inl (first.went.turns, ap (λ (s : Service). first.went.turns ++ end_turn s.dialect ∷ []) (first.went.same ∙ first.numbered));
+  waits = inl (first.went.turns, ap (λ (s : ConnectionTerms). first.went.turns ++ end_turn s.dialect ∷ []) (first.went.same ∙ first.numbered));
 }
 
 either : (stage : Stage) (A B : Type 0) → IfStopping stage A B → A ⊎ B
@@ -166,13 +166,13 @@ either (Skipping database) A B is = inr is
 either (Streaming database) A B is = inr is
 either Closed A B is = inr is
 
-all-sent : {D : Type 0} (told : D → Call → D → Type 0) (service : Service) (x : List ℕ) (d : D) (out : List ℕ) (b : Connection) (e : D) (mid : List ℕ) (c : Connection) (f : D) (end : List ℕ)
+all-sent : {D : Type 0} (told : D → Call → D → Type 0) (service : ConnectionTerms) (x : List ℕ) (d : D) (out : List ℕ) (b : Connection) (e : D) (mid : List ℕ) (c : Connection) (f : D) (end : List ℕ)
     → Began told service x d out b e mid → f ≡ e → Ended b mid c end ⊎ ((c ≡ b) × (end ≡ mid)) → Began told service (x ++ []) d out c f end
 all-sent told service x d out b e mid c f end first backend (inl then) = rw backend (began-ended told service x d out b e mid c end first then)
 all-sent told service x d out b e mid c f end first backend (inr (same, says)) = rw (backend, same, says, append-nil x) first
 
 -- one more event
-pub began-on : {D : Type 0} (told : D → Call → D → Type 0) (service : Service) (x : List ℕ) (d : D) (out : List ℕ) (b : Connection) (e : D) (mid : List ℕ) (event : Event) (c : Connection) (f : D) (end : List ℕ)
+pub began-on : {D : Type 0} (told : D → Call → D → Type 0) (service : ConnectionTerms) (x : List ℕ) (d : D) (out : List ℕ) (b : Connection) (e : D) (mid : List ℕ) (event : ConnectionEvent) (c : Connection) (f : D) (end : List ℕ)
     → Began told service x d out b e mid → Happened told event b e mid c f end → Began told service (x ++ bytes_heard event) d out c f end
 began-on told service x d out b e mid (Came bytes) c f end first then = began-took told service x bytes.items d out b e mid c f end first then.0 then.1
 began-on told service x d out b e mid AllSent c f end first (backend, then) = all-sent told service x d out b e mid c f end first backend (either b.stage (Ended b mid c end) ((c ≡ b) × (end ≡ mid)) then)
@@ -199,7 +199,7 @@ unless_stopping (Skipping database) A B other b = b
 unless_stopping (Streaming database) A B other b = b
 unless_stopping Closed A B other b = b
 
-pub conversed : {D : Type 0} (told : D → Call → D → Type 0) (service : Service) (input : List ℕ) (backend : D) (out : List ℕ) (new : Connection) (backend' : D) (out' : List ℕ)
+pub conversed : {D : Type 0} (told : D → Call → D → Type 0) (service : ConnectionTerms) (input : List ℕ) (backend : D) (out : List ℕ) (new : Connection) (backend' : D) (out' : List ℕ)
     → Began told service input backend out new backend' out' → Gave told (λ asked said. IsConversation service input asked said) backend out backend' out'
 conversed told service input backend out new backend' out' b = record {
   asked = flat_map (λ t. t.asked) b.went.turns;

@@ -15,7 +15,7 @@ use Rattle.pqformat.proofs.Quoting.{found}
 use Rattle.server.specs.declared.asked.table_name.TableName.{TableName}
 use Rattle.server.specs.Questions.{SpellsListed, SpellsNames, SpellsTable, attributes_text}
 use Rattle.server.specs.Reading.{literal_front}
-use Rattle.server.proofs.Lists.{behind_text, same_first}
+use Rattle.server.proofs.Lists.{after_text, same_first}
 use Rattle.server.proofs.Literals.{literal_reads, literal_spells}
 use Rattle.server.proofs.TableQuestions.{decimal_digits, number_once, number_read}
 
@@ -92,7 +92,7 @@ ascii_digits (d ∷ ds) all =
 -- what follows the number is a text
 pub behind_number : (text front rest : List ℕ) (n : ℕ) → list_all (λ b. nat_lt b 128) front ≡ true → n < 2 ^ 32 → text ≡ front ++ (decimal n ++ rest) → IsUtf8 text → IsUtf8 rest
 behind_number text front rest n ascii small is valid =
-    behind_text (decimal n) rest (ascii_digits (decimal n) (decimal_digits n (omega arith))) (behind_text front (decimal n ++ rest) ascii (subst IsUtf8 is valid))
+    after_text (decimal n) rest (ascii_digits (decimal n) (decimal_digits n (omega arith))) (after_text front (decimal n ++ rest) ascii (subst IsUtf8 is valid))
 
 -- ---- columns
 

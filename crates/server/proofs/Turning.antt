@@ -17,8 +17,8 @@ use Rattle.frames.specs.Frame.{Gives}
 use Rattle.frames.specs.Front.{SpellsFront, IsShortFront, framed_front}
 use Rattle.frames.specs.Startup.{SpellsStartup, framed_startup, startup_number, startup_body}
 use Rattle.pqformat.proofs.Numbers.{length-int32}
-use Rattle.server.specs.declared.service.Dialect.{Dialect}
-use Rattle.server.specs.declared.service.Service.{Service}
+use Rattle.server.specs.declared.connection_terms.Dialect.{Dialect}
+use Rattle.server.specs.declared.connection_terms.ConnectionTerms.{ConnectionTerms}
 use Rattle.server.specs.declared.connection.Connection.{Connection}
 use Rattle.server.specs.declared.refusal.Refusal.TheVariants.{Violation}
 use Rattle.server.specs.declared.stages.stage.Stage.{Stage}
@@ -64,7 +64,7 @@ front_of_some n bytes le some = rw (length-take-le n bytes le) at some
 
 -- ---- turns
 
-pub front_turned : {D : Type 0} (told : D → Call → D → Type 0) (service : Service) (stage : Stage) (Answers : Front → List Call → List ℕ → Stage → Type 0) (pending : List ℕ) (count : ℕ) (front : Front) (next : Stage) (Same : Type 0) (backend : D) (out : List ℕ) (backend' : D) (out' : List ℕ)
+pub front_turned : {D : Type 0} (told : D → Call → D → Type 0) (service : ConnectionTerms) (stage : Stage) (Answers : Front → List Call → List ℕ → Stage → Type 0) (pending : List ℕ) (count : ℕ) (front : Front) (next : Stage) (Same : Type 0) (backend : D) (out : List ℕ) (backend' : D) (out' : List ℕ)
     → ((t : Turn) (n : Stage) → t.text ≡ take count pending → IsFrameTurn Answers t n → IsTurn service stage t n)
     → count ≤ length pending → SpellsFront (take count pending) front → IsShortFront front
     → Gave told (λ asked said. Answers front asked said next) backend out backend' out'
@@ -81,7 +81,7 @@ front_turned told service stage Answers pending count front next Same backend ou
   },
 )
 
-pub front_refused : {D : Type 0} (told : D → Call → D → Type 0) (service : Service) (stage : Stage) (Answers : Front → List Call → List ℕ → Stage → Type 0) (pending : List ℕ) (fault : FrameFault) (Same : Type 0) (backend : D) (out out' : List ℕ)
+pub front_refused : {D : Type 0} (told : D → Call → D → Type 0) (service : ConnectionTerms) (stage : Stage) (Answers : Front → List Call → List ℕ → Stage → Type 0) (pending : List ℕ) (fault : FrameFault) (Same : Type 0) (backend : D) (out out' : List ℕ)
     → ((t : Turn) (n : Stage) → t.text ≡ take (length pending) pending → IsFrameTurn Answers t n → IsTurn service stage t n)
     → fault ≢ Memory → Gives (Err fault) (framed_front pending) → out' ≡ out ++ error_of_refusal (refusal_of fault)
     → IsTurned service stage pending (record { stage = Closed; count = length pending }) Same (λ fact. Gave told fact backend out backend out')
@@ -100,7 +100,7 @@ front_refused told service stage Answers pending fault Same backend out out' tur
       },
     )
 
-pub startup_turned : (service : Service) (pending : List ℕ) (count : ℕ) (startup : Startup) (next : Stage) (Same : Type 0) (out out' : List ℕ)
+pub startup_turned : (service : ConnectionTerms) (pending : List ℕ) (count : ℕ) (startup : Startup) (next : Stage) (Same : Type 0) (out out' : List ℕ)
     → count ≤ length pending → SpellsStartup (take count pending) startup → Said (λ asked said. Opens service startup asked said next) out out'
     → IsTurned service Fresh pending (record { stage = next; count = count }) Same (λ fact. Said fact out out')
 startup_turned service pending count startup next Same out out' le spells said = inr (
@@ -109,7 +109,7 @@ startup_turned service pending count startup next Same out out' le spells said =
   record { text = said.text; fact = inl (startup, spells, said.fact); says = said.says },
 )
 
-pub startup_refused : (service : Service) (pending : List ℕ) (fault : FrameFault) (Same : Type 0) (out out' : List ℕ)
+pub startup_refused : (service : ConnectionTerms) (pending : List ℕ) (fault : FrameFault) (Same : Type 0) (out out' : List ℕ)
     → fault ≢ Memory → Gives (Err fault) (framed_startup pending) → out' ≡ out ++ error_of_refusal (refusal_of fault)
     → IsTurned service Fresh pending (record { stage = Closed; count = length pending }) Same (λ fact. Said fact out out')
 startup_refused service pending fault Same out out' other gives says =
@@ -121,14 +121,14 @@ startup_refused service pending fault Same out out' other gives says =
       record { text = error_of_refusal (refusal_of fault); fact = inr (fault, rw whole is, (refl, refl, refl)); says = says },
     )
 
-pub quiet_turned : {D : Type 0} (told : D → Call → D → Type 0) (service : Service) (stage : Stage) (pending : List ℕ) (backend : D) (out out' : List ℕ) (r : Result Turned AllocError)
+pub quiet_turned : {D : Type 0} (told : D → Call → D → Type 0) (service : ConnectionTerms) (stage : Stage) (pending : List ℕ) (backend : D) (out out' : List ℕ) (r : Result Turned AllocError)
     → IfOk r (λ t. IsTurned service stage pending t (out' ≡ out) (λ fact. Said fact out out')) → OnErr r (Extends out out') → TakesTurn told service stage pending r backend out backend out'
 quiet_turned told service stage pending backend out out' (Ok t) (inl (none, same, waits, kept)) keeps = inl (none, same, waits, (refl, kept))
 quiet_turned told service stage pending backend out out' (Ok t) (inr (some, le, said)) keeps = inr (some, le, record { asked = []; text = said.text; fact = said.fact; asks = refl; says = said.says })
 quiet_turned told service stage pending backend out out' (Err e) is keeps = (nothing_tried told (Asks service stage pending) backend, keeps)
 
 -- what the answer of a frame tried, its turn tried
-pub front_tried : {D : Type 0} (told : D → Call → D → Type 0) (service : Service) (stage : Stage) (Answers : Front → List Call → List ℕ → Stage → Type 0) (pending : List ℕ) (count : ℕ) (front : Front) (backend backend' : D)
+pub front_tried : {D : Type 0} (told : D → Call → D → Type 0) (service : ConnectionTerms) (stage : Stage) (Answers : Front → List Call → List ℕ → Stage → Type 0) (pending : List ℕ) (count : ℕ) (front : Front) (backend backend' : D)
     → ((t : Turn) (n : Stage) → t.text ≡ take count pending → IsFrameTurn Answers t n → IsTurn service stage t n)
     → SpellsFront (take count pending) front → IsShortFront front
     → Tried told (λ asked. (next : Stage) × (text : List ℕ) × Answers front asked text next) backend backend' → Tried told (Asks service stage pending) backend backend'
@@ -143,14 +143,14 @@ front_tried told service stage Answers pending count front backend backend' turn
       sym (take-append-drop count pending),
     )) tried
 
-pub closed_turned : {D : Type 0} (told : D → Call → D → Type 0) (service : Service) (pending : List ℕ) (backend : D) (out : List ℕ)
+pub closed_turned : {D : Type 0} (told : D → Call → D → Type 0) (service : ConnectionTerms) (pending : List ℕ) (backend : D) (out : List ℕ)
     → IsTurned service Closed pending (record { stage = Closed; count = length pending }) ((backend ≡ backend) × (out ≡ out)) (λ fact. Gave told fact backend out backend out)
 closed_turned told service [] backend out = inl (refl, refl, refl, (refl, refl))
 closed_turned told service (b ∷ bytes) backend out = inr (omega arith, omega arith, record { asked = []; text = []; fact = (refl, refl, refl); asks = refl; says = sym (append-nil out) })
 
 -- ---- what can't be read
 
-pub refused_takes : {D : Type 0} (told : D → Call → D → Type 0) (service : Service) (stage : Stage) (Answers : Front → List Call → List ℕ → Stage → Type 0) (pending : List ℕ) (fault : FrameFault) (backend : D) (out out' : List ℕ) (r : Result Turned AllocError)
+pub refused_takes : {D : Type 0} (told : D → Call → D → Type 0) (service : ConnectionTerms) (stage : Stage) (Answers : Front → List Call → List ℕ → Stage → Type 0) (pending : List ℕ) (fault : FrameFault) (backend : D) (out out' : List ℕ) (r : Result Turned AllocError)
     → ((t : Turn) (n : Stage) → t.text ≡ take (length pending) pending → IsFrameTurn Answers t n → IsTurn service stage t n)
     → Gives (Err fault) (framed_front pending)
     → OnOk r (fault ≢ Memory) → IfOk r (λ t. t ≡ record { stage = Closed; count = length pending }) → OnOk r (out' ≡ out ++ error_of_refusal (refusal_of fault)) → OnErr r (Extends out out')
@@ -160,7 +160,7 @@ refused_takes told service stage Answers pending fault backend out out' (Ok t) t
     (front_refused told service stage Answers pending fault ((backend ≡ backend) × (out' ≡ out)) backend out out' turn other gives says)
 refused_takes told service stage Answers pending fault backend out out' (Err e) turn gives other is says keeps = (nothing_tried told (Asks service stage pending) backend, keeps)
 
-pub startup_refused_turned : (service : Service) (pending : List ℕ) (fault : FrameFault) (out out' : List ℕ) (r : Result Turned AllocError)
+pub startup_refused_turned : (service : ConnectionTerms) (pending : List ℕ) (fault : FrameFault) (out out' : List ℕ) (r : Result Turned AllocError)
     → Gives (Err fault) (framed_startup pending)
     → OnOk r (fault ≢ Memory) → IfOk r (λ t. t ≡ record { stage = Closed; count = length pending }) → OnOk r (out' ≡ out ++ error_of_refusal (refusal_of fault))
     → IfOk r (λ t. IsTurned service Fresh pending t (out' ≡ out) (λ fact. Said fact out out'))

@@ -4,10 +4,10 @@ use Rattle.std.specs.Prelude.{◌≡◌, ℕ, ◌≤◌, ◌-◌, ◌==◌, List
 use Rattle.std.specs.Str.{bytes_eq}
 use Rattle.frames.specs.declared.back.Back.TheVariants.{ReadyForQuery}
 use Rattle.frames.specs.declared.backend.error_response.TheConstants.{ERROR_RESPONSE}
-use Rattle.frames.specs.declared.backend.ready_for_query.Status.TheVariants as statuses
+use Rattle.frames.specs.declared.backend.ready_for_query.TransactionStatus.TheVariants as statuses
 use Rattle.replcmd.specs.declared.command.Command.{Command}
 use Rattle.replcmd.specs.declared.command.Command.TheVariants as commands
-use Rattle.replcmd.specs.declared.clauses.snapshot.Snapshot.TheVariants as snapshots
+use Rattle.replcmd.specs.declared.clauses.snapshot_clause.SnapshotClause.TheVariants as snapshots
 use Rattle.replcmd.specs.declared.clauses.strictness.Strictness.TheVariants.{Lenient}
 use Rattle.replcmd.specs.Grammar.{SpellsCommand}
 use Rattle.pqformat.specs.Putting.{Extends}
@@ -16,15 +16,15 @@ use Rattle.server.specs.declared.backend_fault.BackendFault.{BackendFault}
 use Rattle.server.specs.declared.sessions.block.BlockState.{BlockState}
 use Rattle.server.specs.declared.sessions.block.BlockState.TheVariants.{Begun, Used, Failed}
 use Rattle.server.specs.declared.sessions.block.Block.{Block}
-use Rattle.server.specs.declared.sessions.block.Ending.{Ending}
-use Rattle.server.specs.declared.sessions.block.Ending.TheVariants.{Commit, Rollback}
+use Rattle.server.specs.declared.sessions.block.BlockEnding.{BlockEnding}
+use Rattle.server.specs.declared.sessions.block.BlockEnding.TheVariants.{Commit, Rollback}
 use Rattle.server.specs.declared.sessions.block.Apart.{Apart}
 use Rattle.server.specs.declared.sessions.block.Apart.TheVariants.{Use, Export, Start}
 use Rattle.server.specs.declared.asked.copy_command.CopyCommand.{CopyCommand}
 use Rattle.server.specs.declared.refusal.Refusal.{Refusal}
 use Rattle.server.specs.declared.refusal.Refusal.TheVariants as refusals
-use Rattle.server.specs.declared.service.Dialect.{Dialect}
-use Rattle.server.specs.declared.service.Dialect.TheVariants.{Commands, Questions}
+use Rattle.server.specs.declared.connection_terms.Dialect.{Dialect}
+use Rattle.server.specs.declared.connection_terms.Dialect.TheVariants.{Commands, Questions}
 use Rattle.server.specs.declared.stages.stage.Stage.{Stage}
 use Rattle.server.specs.declared.stages.stage.Stage.TheVariants.{Idle, InBlock}
 use Rattle.server.specs.Calls.{Call, CreateSnapshot, ReleaseSnapshot}
@@ -39,7 +39,7 @@ abbrev pub begins_block : Dialect → List ℕ → Bool
 begins_block Commands text = false
 begins_block Questions text = bytes_eq text (codes "BEGIN READ ONLY ISOLATION LEVEL REPEATABLE READ")
 
-abbrev pub ending_of : List ℕ → Option Ending
+abbrev pub ending_of : List ℕ → Option BlockEnding
 ending_of text = if bytes_eq text (codes "COMMIT") then Some Commit else if bytes_eq text (codes "ROLLBACK") then Some Rollback else None
 
 -- Slots with snapshots and streams are commands of their own in a block.
@@ -94,7 +94,7 @@ new_block database = record { database = database; state = Begun; holds = false 
 -- ---- the end
 
 -- COMMIT ends a block that failed as ROLLBACK does.
-abbrev pub ending_tag : BlockState → Ending → List ℕ
+abbrev pub ending_tag : BlockState → BlockEnding → List ℕ
 ending_tag Begun Commit = codes "COMMIT"
 ending_tag Used Commit = codes "COMMIT"
 ending_tag Failed Commit = codes "ROLLBACK"
@@ -105,7 +105,7 @@ abbrev pub let_go : Bool → List Call
 let_go true = ReleaseSnapshot ∷ []
 let_go false = []
 
-abbrev pub Ends : Block → Ending → List Call → List ℕ → Stage → Type 0
+abbrev pub Ends : Block → BlockEnding → List Call → List ℕ → Stage → Type 0
 Ends block ending asked said next = (asked ≡ let_go block.holds) × (said ≡ completed (ending_tag block.state ending)) × (next ≡ Idle block.database)
 
 -- ---- queries
@@ -168,6 +168,6 @@ abbrev pub AnswersUnended : Block → List ℕ → List Call → List ℕ → St
 AnswersUnended block query asked said next = (copy : Option CopyCommand) × ReadsCopy query copy × AnswersRead copy block query asked said next
 
 -- what a query in a block asks and is answered, and where it leads to
-abbrev pub AnswersIn : Option Ending → Block → List ℕ → List Call → List ℕ → Stage → Type 0
+abbrev pub AnswersIn : Option BlockEnding → Block → List ℕ → List Call → List ℕ → Stage → Type 0
 AnswersIn (Some ending) block query asked said next = Ends block ending asked said next
 AnswersIn None block query asked said next = AnswersUnended block query asked said next

@@ -3,8 +3,8 @@ use Rattle.std.specs.Prelude.{◌≡◌, ◌≢◌, ℕ, ◌≤◌, length, ◌�
 use Rattle.std.specs.Str.{bytes_eq}
 use Rattle.replcmd.specs.declared.command.Command.{Command}
 use Rattle.replcmd.specs.declared.command.Command.TheVariants.{Identify, Create, Start, Drop}
-use Rattle.replcmd.specs.declared.clauses.snapshot.Snapshot.{Snapshot}
-use Rattle.replcmd.specs.declared.clauses.snapshot.Snapshot.TheVariants.{Export, Nothing, Use}
+use Rattle.replcmd.specs.declared.clauses.snapshot_clause.SnapshotClause.{SnapshotClause}
+use Rattle.replcmd.specs.declared.clauses.snapshot_clause.SnapshotClause.TheVariants.{Export, Nothing, Use}
 use Rattle.replcmd.specs.declared.clauses.strictness.Strictness.{Strictness}
 use Rattle.replcmd.specs.declared.clauses.strictness.Strictness.TheVariants.{Strict, Lenient}
 use Rattle.replcmd.specs.declared.fault.CmdFault.{CmdFault}
@@ -16,8 +16,8 @@ use Rattle.std.specs.declared.alloc.AllocError.{AllocError}
 use Rattle.server.specs.declared.backend_fault.BackendFault.{BackendFault}
 use Rattle.server.specs.declared.refusal.Refusal.{Refusal}
 use Rattle.server.specs.declared.refusal.Refusal.TheVariants as refusals
-use Rattle.server.specs.declared.service.Dialect.{Dialect}
-use Rattle.server.specs.declared.service.Dialect.TheVariants.{Commands, Questions}
+use Rattle.server.specs.declared.connection_terms.Dialect.{Dialect}
+use Rattle.server.specs.declared.connection_terms.Dialect.TheVariants.{Commands, Questions}
 use Rattle.server.specs.declared.asked.table_name.TableName.{TableName}
 use Rattle.server.specs.declared.asked.table_name.TableColumns.{TableColumns}
 use Rattle.server.specs.declared.found_table.FoundTable.{FoundTable}
@@ -64,7 +64,7 @@ MakesSlot slot asked text = (answer : Result ℕ BackendFault) × (asked ≡ Cre
 abbrev pub RefusesUse : List Call → List ℕ → Type 0
 RefusesUse asked text = (asked ≡ []) × (text ≡ error_and_ready refusals.NoTransaction)
 
-abbrev pub Makes : List ℕ → Snapshot → List Call → List ℕ → Type 0
+abbrev pub Makes : List ℕ → SnapshotClause → List Call → List ℕ → Type 0
 Makes slot Export asked text = MakesSlot slot asked text
 Makes slot Nothing asked text = MakesSlot slot asked text
 Makes slot Use asked text = RefusesUse asked text

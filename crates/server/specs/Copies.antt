@@ -5,7 +5,7 @@ use Rattle.std.specs.Char.{is_ascii_lowercase, is_ascii_digit}
 use Rattle.std.specs.Fmt.{decimal}
 use Rattle.std.specs.List.{flat_map, list_all}
 use Rattle.frames.specs.declared.back.Back.TheVariants.{ReadyForQuery, CopyData, CopyDone}
-use Rattle.frames.specs.declared.backend.ready_for_query.Status.TheVariants as statuses
+use Rattle.frames.specs.declared.backend.ready_for_query.TransactionStatus.TheVariants as statuses
 use Rattle.frames.specs.Frame.{frame}
 use Rattle.frames.specs.Plain.{copy_both}
 use Rattle.pqformat.specs.Quoting.{in_quotes}

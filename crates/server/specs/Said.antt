@@ -2,7 +2,7 @@
 use Rattle.std.specs.Prelude.{ℕ, ◌^◌, ◌≤◌, List, [], ◌∷◌, ◌++◌, length, Option, Some, None, Result, Ok, Err, codes}
 use Rattle.frames.specs.declared.back.Back.{Back}
 use Rattle.frames.specs.declared.back.Back.TheVariants.{AuthenticationOk, ParameterStatus, BackendKeyData, ReadyForQuery, CommandComplete, RowDescription, DataRow, ErrorResponse, CopyBothResponse, CopyDone}
-use Rattle.frames.specs.declared.backend.ready_for_query.Status.TheVariants as statuses
+use Rattle.frames.specs.declared.backend.ready_for_query.TransactionStatus.TheVariants as statuses
 use Rattle.frames.specs.declared.backend.row_description.ColumnType.{ColumnType}
 use Rattle.frames.specs.declared.backend.row_description.ColumnDescription.{ColumnDescription}
 use Rattle.frames.specs.declared.backend.data_row.DataValue.{DataValue}
@@ -13,9 +13,9 @@ use Rattle.replcmd.specs.Position.{position_text}
 use Rattle.server.specs.declared.said.say.TheConstants.{TEXT_OID, INT4_OID, INT4_SIZE, ANY_SIZE, NO_MODIFIER, NO_ATTRIBUTE}
 use Rattle.server.specs.declared.backend_fault.BackendFault.{BackendFault}
 use Rattle.server.specs.declared.refusal.Refusal.{Refusal}
-use Rattle.server.specs.declared.service.Dialect.{Dialect}
-use Rattle.server.specs.declared.service.Dialect.TheVariants.{Commands, Questions}
-use Rattle.server.specs.declared.service.Service.{Service}
+use Rattle.server.specs.declared.connection_terms.Dialect.{Dialect}
+use Rattle.server.specs.declared.connection_terms.Dialect.TheVariants.{Commands, Questions}
+use Rattle.server.specs.declared.connection_terms.ConnectionTerms.{ConnectionTerms}
 use Rattle.server.specs.declared.refusal.Refusal.TheVariants.{NoReplication}
 use Rattle.server.specs.Refusals.{refusal_code, refusal_text, backend_code, slot_text, start_text}
 
@@ -80,11 +80,11 @@ abbrev pub greeting_in : Dialect → ℕ → List ℕ
 greeting_in Commands number = greeting number
 greeting_in Questions number = other_greeting number
 
-abbrev pub greeting_of : Service → List ℕ
+abbrev pub greeting_of : ConnectionTerms → List ℕ
 greeting_of service = greeting_in service.dialect service.number
 
 -- a startup that is served, and one that isn't
-abbrev pub answer_to_startup : Service → Option (List ℕ) → List ℕ
+abbrev pub answer_to_startup : ConnectionTerms → Option (List ℕ) → List ℕ
 answer_to_startup service (Some database) = greeting_of service
 answer_to_startup service None = error_of_refusal NoReplication
 

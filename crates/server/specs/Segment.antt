@@ -4,7 +4,7 @@ use Rattle.std.specs.Int.{w32}
 use Rattle.std.specs.List.{flat_map, AllByRecursion}
 use Rattle.pqformat.specs.Fields.{byte_at, number_at}
 use Rattle.frames.specs.declared.frontend.query.TheConstants.{QUERY}
-use Rattle.server.specs.declared.service.Service.{Service}
+use Rattle.server.specs.declared.connection_terms.ConnectionTerms.{ConnectionTerms}
 use Rattle.server.specs.declared.fault.ConnFault.{ConnFault}
 use Rattle.server.specs.declared.fault.ConnFault.TheVariants as faults
 use Rattle.server.specs.declared.connection.Phase.{Phase}
@@ -17,8 +17,8 @@ use Rattle.pqformat.specs.Putting.{Extends}
 use Rattle.std.specs.declared.alloc.AllocError.{AllocError}
 use Rattle.server.specs.Calls.{Call, AreAsked}
 use Rattle.server.specs.Conversation.{Gave, Tried}
-use Rattle.server.specs.declared.conversation.Event.{Event}
-use Rattle.server.specs.declared.conversation.Event.TheVariants.{Came, AllSent}
+use Rattle.server.specs.declared.conversation.ConnectionEvent.{ConnectionEvent}
+use Rattle.server.specs.declared.conversation.ConnectionEvent.TheVariants.{Came, AllSent}
 use Rattle.server.specs.Turns.{Turn, IsTurn, AreTurns, Waits, end_turn}
 use Rattle.server.specs.Said.{end_of_stream}
 
@@ -40,7 +40,7 @@ pub record Went {D : Type 0} (told : D → Call → D → Type 0) (Kind : Turn �
   pub say : out' ≡ out ++ flat_map (λ t. t.said) turns
 
 -- A turn at the front of what is pending asks this.
-abbrev pub Asks : Service → Stage → List ℕ → List Call → Type 0
+abbrev pub Asks : ConnectionTerms → Stage → List ℕ → List Call → Type 0
 Asks service stage pending asked = (t : Turn) × (next : Stage) × (rest : List ℕ) × IsTurn service stage t next × (t.asked ≡ asked) × (pending ≡ t.text ++ rest)
 
 -- A call in which memory ran out. The turns before that are whole; of the turn that failed nothing was said, and the backend
@@ -65,7 +65,7 @@ pub record Ended (old : Connection) (out : List ℕ) (new : Connection) (out' : 
   pub say : out' ≡ out ++ end_of_stream old.service.dialect
 
 -- what the client sent in it
-abbrev pub bytes_heard : Event → List ℕ
+abbrev pub bytes_heard : ConnectionEvent → List ℕ
 bytes_heard (Came bytes) = bytes.items
 bytes_heard AllSent = []
 
@@ -81,7 +81,7 @@ IfStopping (Streaming database) Then Else = Else
 IfStopping Closed Then Else = Else
 
 -- What comes is taken. That all has been sent ends a stream that stops, and is passed over else.
-abbrev pub Happened : {D : Type 0} → (D → Call → D → Type 0) → Event → Connection → D → List ℕ → Connection → D → List ℕ → Type 0
+abbrev pub Happened : {D : Type 0} → (D → Call → D → Type 0) → ConnectionEvent → Connection → D → List ℕ → Connection → D → List ℕ → Type 0
 Happened told (Came bytes) old backend out new backend' out' = Went told HasCause bytes.items old backend out new backend' out' × Waits new.stage new.pending.items
 Happened told AllSent old backend out new backend' out' = (backend' ≡ backend) × IfStopping old.stage (Ended old out new out') ((new ≡ old) × (out' ≡ out))
 
@@ -104,7 +104,7 @@ phase_of Closed = phases.Closed
 -- ---- one turn
 
 -- the turn of this text
-abbrev pub OneTurn : Service → Stage → List ℕ → Stage → List Call → List ℕ → Type 0
+abbrev pub OneTurn : ConnectionTerms → Stage → List ℕ → Stage → List Call → List ℕ → Type 0
 OneTurn service old text new asked said = IsTurn service old (record { text = text; asked = asked; said = said }) new
 
 -- what was said, where nothing is asked of the backend
@@ -114,13 +114,13 @@ pub record Said (Fact : List Call → List ℕ → Type 0) (out : List ℕ) (out
   pub says : out' ≡ out ++ text
 
 -- Either nothing is whole and nothing changes, or a turn took the front of what was pending.
-abbrev pub IsTurned : Service → Stage → List ℕ → Turned → Type 0 → ((List Call → List ℕ → Type 0) → Type 0) → Type 0
+abbrev pub IsTurned : ConnectionTerms → Stage → List ℕ → Turned → Type 0 → ((List Call → List ℕ → Type 0) → Type 0) → Type 0
 IsTurned service stage pending t Same Step =
     ((t.count ≡ 0) × (t.stage ≡ stage) × Waits stage pending × Same)
     ⊎ ((0 < t.count) × (t.count ≤ length pending) × Step (OneTurn service stage (take t.count pending) t.stage))
 
 -- Either that, or memory ran out in the turn.
-abbrev pub TakesTurn : {D : Type 0} → (D → Call → D → Type 0) → Service → Stage → List ℕ → Result Turned AllocError → D → List ℕ → D → List ℕ → Type 0
+abbrev pub TakesTurn : {D : Type 0} → (D → Call → D → Type 0) → ConnectionTerms → Stage → List ℕ → Result Turned AllocError → D → List ℕ → D → List ℕ → Type 0
 TakesTurn told service stage pending (Ok t) backend out backend' out' = IsTurned service stage pending t ((backend' ≡ backend) × (out' ≡ out)) (λ fact. Gave told fact backend out backend' out')
 TakesTurn told service stage pending (Err e) backend out backend' out' = Tried told (Asks service stage pending) backend backend' × Extends out out'
 

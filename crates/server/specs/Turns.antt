@@ -13,8 +13,8 @@ use Rattle.frames.specs.Front.{SpellsFront, IsShortFront, framed_front}
 use Rattle.copyboth.specs.declared.fault.CopyFault.{CopyFault}
 use Rattle.copyboth.specs.declared.status.Status.{Status}
 use Rattle.copyboth.specs.Status.{SpellsStatus, client_fault}
-use Rattle.server.specs.declared.service.Dialect.{Dialect}
-use Rattle.server.specs.declared.service.Service.{Service}
+use Rattle.server.specs.declared.connection_terms.Dialect.{Dialect}
+use Rattle.server.specs.declared.connection_terms.ConnectionTerms.{ConnectionTerms}
 use Rattle.server.specs.declared.refusal.Refusal.{Refusal}
 use Rattle.server.specs.declared.refusal.Refusal.TheVariants.{Violation, Version, ExtendedQuery, FunctionCall}
 use Rattle.server.specs.declared.stages.stage.Stage.{Stage}
@@ -56,7 +56,7 @@ session (Some database) = Idle database
 session None = Closed
 
 -- Encryption is declined by a single byte, and the startup is still waited for.
-abbrev pub Opens : Service → Startup → List Call → List ℕ → Stage → Type 0
+abbrev pub Opens : ConnectionTerms → Startup → List Call → List ℕ → Stage → Type 0
 Opens service (Session parameters) = Says (answer_to_startup service (opened_database parameters)) (session (opened_database parameters))
 Opens service Ssl = Says (codes "N") Fresh
 Opens service Gss = Says (codes "N") Fresh
@@ -158,7 +158,7 @@ IsCopyTurn copying t next = (t.text ≡ []) × CopiesOn copying t.asked t.said n
 
 -- A turn from one stage to the next. Its text is one startup, or one frame, or it begins with what is neither: then the
 -- connection closes, and all that follows is passed over.
-abbrev pub IsTurn : Service → Stage → Turn → Stage → Type 0
+abbrev pub IsTurn : ConnectionTerms → Stage → Turn → Stage → Type 0
 IsTurn service Fresh t next =
     ((startup : Startup) × SpellsStartup t.text startup × Opens service startup t.asked t.said next)
     ⊎ ((fault : FrameFault) × (framed_startup t.text ≡ Err fault) × Refuses (refusal_of fault) t.asked t.said next)
@@ -171,7 +171,7 @@ IsTurn service (Stopping database) t next = (t ≡ end_turn service.dialect) × 
 IsTurn service Closed t next = Says [] Closed t.asked t.said next
 
 -- one turn after the other
-abbrev pub AreTurns : Service → Stage → List Turn → Stage → Type 0
+abbrev pub AreTurns : ConnectionTerms → Stage → List Turn → Stage → Type 0
 AreTurns service old [] new = new ≡ old
 AreTurns service old (t ∷ ts) new = (mid : Stage) × IsTurn service old t mid × AreTurns service mid ts new
 
@@ -188,12 +188,12 @@ Waits (Stopping database) rest = Unit {0}
 Waits Closed rest = rest ≡ []
 
 -- a stream has just ended: what came after its CopyDone counts from the next call on
-abbrev pub HaveEnded : Service → List Turn → Type 0
+abbrev pub HaveEnded : ConnectionTerms → List Turn → Type 0
 HaveEnded service turns = (before : List Turn) × (turns ≡ before ++ end_turn service.dialect ∷ [])
 
 -- What a connection of this service hears, what it asks of its backend and what it says are one conversation: from its
 -- startup on, turn by turn, the turns spell the input but for a rest that is waited on. The bytes of streams are apart.
-pub record IsConversation (service : Service) (input : List ℕ) (asked : List Call) (said : List ℕ) : Type 0 where
+pub record IsConversation (service : ConnectionTerms) (input : List ℕ) (asked : List Call) (said : List ℕ) : Type 0 where
   pub turns : List Turn
   pub end : Stage
   pub rest : List ℕ

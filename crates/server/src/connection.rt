@@ -5,13 +5,13 @@ ghost use Rattle.pqformat.specs.Fields.{byte_at};
 ghost use Rattle.server.specs.Segment.{Went, HasCause, Broke, Asks, Ended, UnlessMemory, has_command, has_query, is_copying, most_turns, phase_of};
 ghost use Rattle.server.specs.Conversation.{Tried};
 ghost use Rattle.server.specs.Turns.{IsTurn, Waits, end_turn};
-ghost use Rattle.server.specs.declared.service.Dialect.TheVariants.{Commands};
+ghost use Rattle.server.specs.declared.connection_terms.Dialect.TheVariants.{Commands};
 ghost use Rattle.server.specs.declared.stages.stage.Stage.TheVariants.{Fresh, Closed};
 
 use crate::backend::Backend;
+use crate::connection_terms::{ConnectionTerms, Dialect};
 use crate::fault::ConnFault;
 use crate::said::ending::say_ended;
-use crate::service::{Dialect, Service};
 use crate::stages::copying::turn_copy;
 use crate::stages::stage::{Stage, Turned};
 use crate::stages::turn::turn;
@@ -42,7 +42,7 @@ pub enum Phase {
 #[derive(Drop)]
 pub struct Connection {
     pub(crate) alloc: Global,
-    pub(crate) service: Service,
+    pub(crate) service: ConnectionTerms,
     pub(crate) stage: Stage,
     /// What has come and isn't answered yet.
     pub(crate) pending: BytesMut,
@@ -56,11 +56,11 @@ impl Connection {
         ensures pending { result.pending.items ≡ [] }
     {
         let dialect = Dialect::Commands;
-        Connection::served(alloc, Service { number, dialect })
+        Connection::served(alloc, ConnectionTerms { number, dialect })
     }
 
     /// A connection that is served so, and waits for its startup.
-    pub fn served(alloc: Global, service: Service) -> Self
+    pub fn served(alloc: Global, service: ConnectionTerms) -> Self
         ensures service { result.service ≡ service }
         ensures stage { result.stage ≡ Fresh }
         ensures pending { result.pending.items ≡ [] }
@@ -345,7 +345,7 @@ fn has_query(bytes: &[u8]) -> bool
 /// Where a stream's end leads to.
 fn after_end(stage: Stage) -> Stage
     requires { phase_of stage ≡ Phase.Stopping }
-    ensures { (service : Service) → IsTurn service stage (end_turn service.dialect) result }
+    ensures { (service : ConnectionTerms) → IsTurn service stage (end_turn service.dialect) result }
 {
     match stage {
         Stage::Stopping(database) => Stage::Idle(database),

@@ -8,14 +8,14 @@ ghost use Rattle.server.specs.Turns.{IsConversation};
 
 use crate::backend::Backend;
 use crate::connection::{Connection, Phase};
+use crate::connection_terms::ConnectionTerms;
 use crate::fault::ConnFault;
-use crate::service::Service;
 use bytes::BytesMut;
 use std::alloc::{AllocError, Global};
 
 /// What happens on a connection.
 #[derive(Drop)]
-pub enum Event {
+pub enum ConnectionEvent {
     /// Bytes of the client come.
     Came(Vec<u8>),
     /// The sender of a stream that stops has no more.
@@ -26,7 +26,7 @@ pub enum Event {
 #[tactic(auto, using(crate::proofs::Segments::if_stopping, crate::proofs::Segments::unless_stopping))]
 fn happen<D: Backend>(
     connection: &mut Connection,
-    event: &Event,
+    event: &ConnectionEvent,
     backend: &mut D,
     out: &mut BytesMut,
 ) -> Result<(), ConnFault>
@@ -35,10 +35,10 @@ fn happen<D: Backend>(
         out.new.items) }
 {
     match event {
-        Event::Came(bytes) => {
+        ConnectionEvent::Came(bytes) => {
             connection.take(bytes.as_slice(), backend, out)?;
         }
-        Event::AllSent => {
+        ConnectionEvent::AllSent => {
             if connection.phase() == Phase::Stopping {
                 connection.stopped(out)?;
             }
@@ -61,8 +61,8 @@ fn unless_memory(answer: Result<(), ConnFault>) -> Result<(), AllocError>
 /// end in between. `AllocError` where memory is refused: the connection is closed then, and the events after it don't happen.
 pub fn converse<D: Backend>(
     alloc: Global,
-    service: Service,
-    events: &[Event],
+    service: ConnectionTerms,
+    events: &[ConnectionEvent],
     backend: &mut D,
     out: &mut BytesMut,
 ) -> Result<(), AllocError>

@@ -22,9 +22,10 @@ use Rattle.server_state.specs.contracts.server_state.ServerState as server_state
 use Rattle.server_state.specs.contracts.opening.system.SystemName as system
 use Rattle.server_state.proofs.opening.settings.HubSettings.TheSendSync as settings
 use Rattle.server_state.proofs.streams.commit_notice.CommitNotice.TheSendSync as notice
+use Rattle.server_state.proofs.kept.log_size.LogSize.TheSendSync as log_size
 use Rattle.server_state.proofs.kept.log_times.LogTimes.TheSendSync as times
 use Rattle.server_state.proofs.kept.owned_names.OwnedNames.TheSendSync as names
-use Rattle.server_state.proofs.kept.pool.Pool.TheSendSync as pool
+use Rattle.server_state.proofs.kept.pool.ReaderPool.TheSendSync as pool
 
 -- ---- publications
 published_send : IsSend published.the_row
@@ -85,7 +86,7 @@ module _ (L : RattleType) (s : slot_name.Ghosts L.Denot) (l : log_name.Ghosts L.
                                 search (heap.crosses, sendable) depth 10,
                                 (
                                   search (monitor_sync, heap.crosses, sendable) depth 10,
-                                  (sockets_sync, (search (heap.crosses, sendable) depth 10, (sockets_sync, (search (reader.the_send L l, heap.crosses, sendable) depth 10, (search (users.the_send, heap.crosses, sendable) depth 20, (search (heap.crosses, sendable) depth 10, (search (heap.crosses, sendable) depth 10, tt))))))),
+                                  (sockets_sync, (search (heap.crosses, sendable) depth 10, (sockets_sync, (search (reader.the_send L l, heap.crosses, sendable) depth 10, (search (users.the_send, heap.crosses, sendable) depth 20, (search (heap.crosses, sendable) depth 10, (search (heap.crosses, sendable) depth 10, (search (log_size.the_send, heap.crosses, sendable) depth 10, tt)))))))),
                                 ),
                               ),
                             ),

@@ -2,6 +2,7 @@
 
 pub(crate) mod giving;
 pub(crate) mod keeping;
+pub(crate) mod log_size;
 pub(crate) mod log_times;
 pub(crate) mod owned_names;
 pub(crate) mod owners;

@@ -16,9 +16,9 @@ mod server_state;
 mod sessions;
 mod streams;
 
-pub use arrivals::arriving::Place;
+pub use arrivals::arriving::Admission;
 pub use fault::{EndFault, HubFault, ServeFault, SteerFault};
-pub use kept::keeping::SlotSnapshot;
+pub use kept::keeping::SlotWithSnapshot;
 pub use kept::pool::ReaderSeat;
 pub use opening::configured::ConfigurationFault;
 pub use opening::hub_builder::HubBuilder;

@@ -3,9 +3,10 @@
 ghost use Rattle.std.specs.Prelude.{◌≡◌};
 
 use crate::fault::HubFault;
+use crate::kept::log_size::LogSize;
 use crate::kept::log_times::LogTimes;
 use crate::kept::owned_names::OwnedNames;
-use crate::kept::pool::Pool;
+use crate::kept::pool::ReaderPool;
 use crate::opening::at_once::AtOnce;
 use crate::opening::hub_builder::HubBuilder;
 use crate::opening::settings::HubSettings;
@@ -15,7 +16,7 @@ use crate::streams::commit_notice::CommitNotice;
 use authentication::Users;
 use connections::{ConnectionMailbox, Latch, SlotMonitor, Sockets};
 use publication::Publications;
-use server::{Dialect, Service};
+use server::{ConnectionTerms, Dialect};
 use shared_log::{LogName, LogReader};
 use slots::{SlotName, SlotTable};
 use std::alloc::Global;
@@ -33,7 +34,7 @@ pub struct ServerState<L: LogName + SlotName> {
     /// What sessions call, one thread at a time.
     pub publisher: Mutex<Publisher<L>>,
     pub slots: SlotTable<L>,
-    pub(crate) pool: Mutex<Pool<L>>,
+    pub(crate) pool: Mutex<ReaderPool<L>>,
     pub(crate) names: Mutex<OwnedNames<L>>,
     pub notice: Mutex<CommitNotice<L>>,
     /// When the log came past which position.
@@ -60,6 +61,8 @@ pub struct ServerState<L: LogName + SlotName> {
     pub(crate) strangers: AtomicU32,
     /// How many records the log has had when it is looked next which of them nobody needs.
     pub(crate) next_look: AtomicUsize,
+    /// How long the log was when the publisher was let go last.
+    pub(crate) log_size: Mutex<LogSize>,
 }
 
 impl<L: LogName + SlotName> ServerState<L> {
@@ -112,6 +115,7 @@ impl<L: LogName + SlotName> ServerState<L> {
             latches,
             monitors,
         } = places;
+        let log_size = Mutex::new(LogSize::of(&publisher));
         ServerState {
             alloc,
             publications,
@@ -136,6 +140,7 @@ impl<L: LogName + SlotName> ServerState<L> {
             users: users.map(Mutex::new),
             strangers: AtomicU32::new(0),
             next_look: AtomicUsize::new(0),
+            log_size,
         }
     }
 
@@ -165,18 +170,19 @@ impl<L: LogName + SlotName> ServerState<L> {
             users: _,
             strangers: _,
             next_look: _,
+            log_size: _,
         } = self;
         publisher.into_inner().close(rt);
     }
 
     /// How the connection of this number is served.
-    pub fn service(&self, number: u32) -> Service {
+    pub fn service(&self, number: u32) -> ConnectionTerms {
         let dialect = if self.settings.answers_postgresql {
             Dialect::Questions
         } else {
             Dialect::Commands
         };
-        Service { number, dialect }
+        ConnectionTerms { number, dialect }
     }
 
     /// For how long a read of a connection waits: half of the time for which the client of a stream may be silent. None: for ever.

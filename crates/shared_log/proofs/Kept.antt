@@ -83,12 +83,12 @@ starts_at r at rs e = by_test (r.start == at) (λ is. eqb-true r.start at is) e
     by_test true same e = (same refl, e)
     by_test false same e = absurd cc
 
-starts_behind : (items : List Logged) (at k : ℕ) (d : Logged) → follows at (records_in items) ≡ true → AllByRecursion IsSized (records_in items) → k < length items → at ≤ (get_or items k d).entry.value.start
-starts_behind [] at k d goes sized lt = absurd (omega (arith, lt))
-starts_behind (l ∷ items) at zero d goes sized lt = omega (arith, (starts_at l.entry.value at (records_in items) goes).0)
-starts_behind (l ∷ items) at (suc k) d goes sized lt =
+starts_after : (items : List Logged) (at k : ℕ) (d : Logged) → follows at (records_in items) ≡ true → AllByRecursion IsSized (records_in items) → k < length items → at ≤ (get_or items k d).entry.value.start
+starts_after [] at k d goes sized lt = absurd (omega (arith, lt))
+starts_after (l ∷ items) at zero d goes sized lt = omega (arith, (starts_at l.entry.value at (records_in items) goes).0)
+starts_after (l ∷ items) at (suc k) d goes sized lt =
     let next = starts_at l.entry.value at (records_in items) goes in
-    omega (arith, next.0, sized.0, starts_behind items l.entry.value.end k d next.1 sized.1 (omega (arith, lt)))
+    omega (arith, next.0, sized.0, starts_after items l.entry.value.end k d next.1 sized.1 (omega (arith, lt)))
 
 pub starts_rise : (items : List Logged) (at : ℕ) → follows at (records_in items) ≡ true → AllByRecursion IsSized (records_in items) → IsNonDecreasingBy (λ (l : Logged). l.entry.value.start) items
 starts_rise [] at goes sized i j d le lt = absurd (omega (arith, lt))
@@ -96,7 +96,7 @@ starts_rise (l ∷ items) at goes sized zero zero d le lt = omega arith
 starts_rise (l ∷ items) at goes sized (suc i) zero d le lt = absurd (omega (arith, le))
 starts_rise (l ∷ items) at goes sized zero (suc j) d le lt =
     let next = starts_at l.entry.value at (records_in items) goes in
-    omega (arith, next.0, sized.0, starts_behind items l.entry.value.end j d next.1 sized.1 (omega (arith, lt)))
+    omega (arith, next.0, sized.0, starts_after items l.entry.value.end j d next.1 sized.1 (omega (arith, lt)))
 starts_rise (l ∷ items) at goes sized (suc i) (suc j) d le lt =
     let next = starts_at l.entry.value at (records_in items) goes in
     starts_rise items l.entry.value.end next.1 sized.1 i j d (omega (arith, le)) (omega (arith, lt))

@@ -1,6 +1,6 @@
 pub mod Prefixes
 pub mod Adding
-pub mod Fronts
+pub mod SeenPrefixes
 pub mod Kept
 pub mod Lying
 pub mod Progress

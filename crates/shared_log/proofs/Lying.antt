@@ -9,7 +9,7 @@ use Rattle.wal.specs.Restart.{oldest}
 use Rattle.wal.proofs.Laws.{end_of-append}
 use Rattle.shared_log.specs.declared.histories.edge.Edge.{Edge}
 use Rattle.shared_log.specs.declared.histories.copy.Logged.{Logged}
-use Rattle.shared_log.specs.declared.histories.copy.Put.{Put}
+use Rattle.shared_log.specs.declared.histories.copy.PutRecord.{PutRecord}
 use Rattle.shared_log.specs.Kept.{LiesFrom, edge_entered, edge_past, kept_entered, kept_in, with_restarts_from}
 use Rattle.shared_log.specs.Writing.{Waits}
 use Rattle.shared_log.proofs.Kept.{restarts-push}
@@ -115,7 +115,7 @@ lies_longer log r edge kept lies =
     drop-within (suc n) (x ∷ xs) ys le = drop-within n xs ys (omega (arith, le))
 
 -- copies begin ever further on
-pub waits_rise : (log : List Record) (first last : ℕ) (puts : List Put) → Waits log first last puts → first ≤ last
+pub waits_rise : (log : List Record) (first last : ℕ) (puts : List PutRecord) → Waits log first last puts → first ≤ last
 waits_rise log first last [] waits = waits
 waits_rise log first last (p ∷ puts) waits = omega (arith, waits.1, waits_rise log p.edge last puts waits.2)
 
@@ -127,10 +127,10 @@ pub record LiesBelow {S : Type 0} (log : List Record) (first : ℕ) (item : Reco
   pub sees : state.2 ≡ seen
 
 -- what waits at one place, one after the other: the last of it stands there
-pub folded : {S : Type 0} (item_of : Put → Record × ℕ) (seen_of : Put → S) (log : List Record) (edge : Edge) (kept rest : List (Record × ℕ)) (s : S) (last : ℕ) (puts : List Put) (put : Put)
+pub folded : {S : Type 0} (item_of : PutRecord → Record × ℕ) (seen_of : PutRecord → S) (log : List Record) (edge : Edge) (kept rest : List (Record × ℕ)) (s : S) (last : ℕ) (puts : List PutRecord) (put : PutRecord)
     → LiesFrom log edge kept → Waits log edge.place last puts → put.place ≡ length log → last ≤ put.edge → put.edge ≤ length log
     → LiesBelow log put.edge (item_of put) (seen_of put)
-    (fold (λ (x : Edge × List (Record × ℕ) × S) (p : Put). (edge_entered p.place p.edge x.0 x.1, kept_entered p.place p.edge x.0 x.1 (item_of p), seen_of p)) (edge, kept ++ rest, s) (puts ++ put ∷ []))
+    (fold (λ (x : Edge × List (Record × ℕ) × S) (p : PutRecord). (edge_entered p.place p.edge x.0 x.1, kept_entered p.place p.edge x.0 x.1 (item_of p), seen_of p)) (edge, kept ++ rest, s) (puts ++ put ∷ []))
 folded item_of seen_of log edge kept rest s last [] put lies waits at le within =
     record { kept = drop (put.edge - edge.place) (take (put.place - edge.place) (kept ++ rest)); lies = enters_at log edge kept rest put.place put.edge lies at (omega (arith, waits, le)) within; items = refl; sees = refl }
 folded item_of seen_of log edge kept rest s last (p ∷ puts) put lies waits at le within =

@@ -20,7 +20,7 @@ use Rattle.shared_log.specs.Readers.{HasSeen, seen_of}
 use Rattle.shared_log.specs.Removed.{IsUnread}
 use Rattle.shared_log.specs.declared.histories.entry.Entry.{Entry}
 use Rattle.shared_log.specs.declared.histories.entry.Entry.TheVariants.{Offered, Confirmed}
-use Rattle.shared_log.specs.Fronts.{one_of, open_from, settled_from, settled_records, shown_records}
+use Rattle.shared_log.specs.SeenPrefixes.{one_of, open_from, settled_from, settled_records, shown_records}
 use Rattle.shared_log.specs.Kept.{LiesFrom, kept_in, records_in, with_restarts_from}
 use Rattle.shared_log.proofs.Kept.{all_front, end_at, follows-front, records_of, records_part, restart_at, starts_at}
 

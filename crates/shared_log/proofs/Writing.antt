@@ -15,13 +15,13 @@ use Rattle.wal.proofs.Laws.{end_of-append}
 use Rattle.shared_log.specs.declared.histories.entry.Entry.{Entry}
 use Rattle.shared_log.specs.declared.histories.entry.Entry.TheVariants.{Offered, Confirmed}
 use Rattle.shared_log.specs.declared.histories.copy.LogCopy.{LogCopy}
-use Rattle.shared_log.specs.declared.histories.copy.Put.{Put}
+use Rattle.shared_log.specs.declared.histories.copy.PutRecord.{PutRecord}
 use Rattle.shared_log.specs.declared.histories.law.Law.{Law}
 use Rattle.shared_log.specs.declared.appending.openings.Opening.{Opening}
 use Rattle.shared_log.specs.declared.appending.openings.Openings.{Openings as Noted}
 use Rattle.shared_log.specs.declared.appending.outline.Outline.{Outline}
 use Rattle.shared_log.specs.declared.histories.rule.View.{View}
-use Rattle.shared_log.specs.Fronts.{one_of, settled_from, settled_records, open_from, shown_records, ends_confirmed}
+use Rattle.shared_log.specs.SeenPrefixes.{one_of, settled_from, settled_records, open_from, shown_records, ends_confirmed}
 use Rattle.shared_log.specs.declared.histories.edge.Edge.{Edge}
 use Rattle.shared_log.specs.Kept.{LiesFrom, edge_entered, kept_entered, kept_in}
 use Rattle.shared_log.specs.Openings.{AreOpenings, openings_after, restart_after}
@@ -29,7 +29,7 @@ use Rattle.shared_log.specs.Sharing.{Keeps, Saw}
 use Rattle.shared_log.specs.Writing.{IsOffered, IsOutline, IsPut, Shows, Stands, Waits}
 use Rattle.shared_log.proofs.Lying.{LiesBelow, folded, lies_longer}
 use Rattle.shared_log.proofs.Progress.{oldest-next, openings-next}
-use Rattle.shared_log.proofs.Fronts.{open_behind, settled_offer, settled_confirm, ends_confirm}
+use Rattle.shared_log.proofs.SeenPrefixes.{open_after, settled_offer, settled_confirm, ends_confirm}
 use Rattle.shared_log.proofs.Steps.{goes_on}
 
 -- ---- What is known by the history.
@@ -87,7 +87,7 @@ stands_confirmed front next sure last count end old new outline stands offered i
       confirmed = ap ends_confirmed (last_is ∙ is) ∙ ends_confirm front;
       progress = subst (λ (l : List Record). AreOpenings l new.items.items) (sym now)
           (subst (λ (os : List Opening). AreOpenings (log ++ r ∷ []) os) (sym new_is) (openings-next log r old.items.items outline.top outline.is_last fits.good fits.owner fits.last stands.progress));
-      room = λ other some. let never : None ≡ Some other = sym (ap (open_from None) is ∙ open_behind None front (Confirmed ∷ [])) ∙ some in absurd cc;
+      room = λ other some. let never : None ≡ Some other = sym (ap (open_from None) is ∙ open_after None front (Confirmed ∷ [])) ∙ some in absurd cc;
     }
 
 -- where a record is offered, that one is it
@@ -96,7 +96,7 @@ offered_is front next r outline fits is short =
     let now : settled_records front ≡ settled_records next = sym (ap settled_records is ∙ settled_offer front r) in
     record {
       offered = r;
-      waits = ap (open_from None) is ∙ open_behind None front (Offered r ∷ []);
+      waits = ap (open_from None) is ∙ open_after None front (Offered r ∷ []);
       fits = subst (λ (l : List Record). IsOutline l r outline) now fits;
       short = omega (arith, short, ap length is, length-append front (Offered r ∷ []));
     }
@@ -111,16 +111,16 @@ restart_is log r os old outline count restart fits counted same is are =
 -- ---- What readers see, and what waits.
 
 -- one more waits
-waits_push : (log : List Record) (first last : ℕ) (puts : List Put) (put : Put) → Waits log first last puts → put.place ≡ length log → last ≤ put.edge → Waits log first put.edge (puts ++ put ∷ [])
+waits_push : (log : List Record) (first last : ℕ) (puts : List PutRecord) (put : PutRecord) → Waits log first last puts → put.place ≡ length log → last ≤ put.edge → Waits log first put.edge (puts ++ put ∷ [])
 waits_push log first last [] put waits at le = (at, omega (arith, waits, le), omega arith)
 waits_push log first last (p ∷ puts) put waits at le = (waits.0, waits.1, waits_push log p.edge last puts put waits.2 at le)
 
-waits_further : (log : List Record) (first last next : ℕ) (puts : List Put) → Waits log first last puts → last ≤ next → Waits log first next puts
+waits_further : (log : List Record) (first last next : ℕ) (puts : List PutRecord) → Waits log first last puts → last ≤ next → Waits log first next puts
 waits_further log first last next [] waits le = omega (arith, waits, le)
 waits_further log first last next (p ∷ puts) waits le = (waits.0, waits.1, waits_further log p.edge last next puts waits.2 le)
 
 -- nothing new is seen, and nothing more waits
-pub shows_still : (log now : List Record) (last next given : ℕ) (old new : LogCopy) (old_waiting waiting : List Put) → Shows log last given old.mark.seen.log old.edge (kept_in old.records.items) old_waiting → now ≡ log
+pub shows_still : (log now : List Record) (last next given : ℕ) (old new : LogCopy) (old_waiting waiting : List PutRecord) → Shows log last given old.mark.seen.log old.edge (kept_in old.records.items) old_waiting → now ≡ log
     → new ≡ old → waiting ≡ old_waiting → last ≤ next → next ≤ given → Shows now next given new.mark.seen.log new.edge (kept_in new.records.items) waiting
 shows_still log now last next given old new old_waiting waiting shows now_is new_is waiting_is le bounded =
     let whole : Shows log next given old.mark.seen.log old.edge (kept_in old.records.items) old_waiting =
@@ -128,7 +128,7 @@ shows_still log now last next given old new old_waiting waiting shows now_is new
     rw (now_is, new_is, waiting_is) whole
 
 -- nothing new is seen, and one more waits
-pub shows_waiting : (log now : List Record) (last given : ℕ) (old new : LogCopy) (old_waiting waiting : List Put) (put : Put) → Shows log last given old.mark.seen.log old.edge (kept_in old.records.items) old_waiting → now ≡ log
+pub shows_waiting : (log now : List Record) (last given : ℕ) (old new : LogCopy) (old_waiting waiting : List PutRecord) (put : PutRecord) → Shows log last given old.mark.seen.log old.edge (kept_in old.records.items) old_waiting → now ≡ log
     → new ≡ old → waiting ≡ old_waiting ++ put ∷ [] → put.place ≡ length log → last ≤ put.edge → put.edge ≤ given → Shows now put.edge given new.mark.seen.log new.edge (kept_in new.records.items) waiting
 shows_waiting log now last given old new old_waiting waiting put shows now_is new_is waiting_is at le bounded =
     let whole : Shows log put.edge given old.mark.seen.log old.edge (kept_in old.records.items) (old_waiting ++ put ∷ []) =
@@ -136,14 +136,14 @@ shows_waiting log now last given old new old_waiting waiting put shows now_is ne
     rw (now_is, new_is, waiting_is) whole
 
 -- all that waited is seen
-pub shows_all : (log now : List Record) (next given : ℕ) (new : LogCopy) (waiting : List Put) → shown_records new.mark.seen.log ≡ log → LiesFrom log new.edge (kept_in new.records.items) → new.edge.place ≡ next → now ≡ log → waiting ≡ []
+pub shows_all : (log now : List Record) (next given : ℕ) (new : LogCopy) (waiting : List PutRecord) → shown_records new.mark.seen.log ≡ log → LiesFrom log new.edge (kept_in new.records.items) → new.edge.place ≡ next → now ≡ log → waiting ≡ []
     → next ≤ given → given ≤ length log → Shows now next given new.mark.seen.log new.edge (kept_in new.records.items) waiting
 shows_all log now next given new waiting says lies at now_is none bounded within =
     let whole : Shows log next given new.mark.seen.log new.edge (kept_in new.records.items) [] = record { says = says; shown = lies; waits = omega (arith, at); bounded = bounded; within = within } in
     rw (now_is, none) whole
 
 -- more may be given back
-pub shows_given : (log : List Record) (last given next : ℕ) (copy : LogCopy) (waiting : List Put) → Shows log last given copy.mark.seen.log copy.edge (kept_in copy.records.items) waiting → given ≤ next → next ≤ length log
+pub shows_given : (log : List Record) (last given next : ℕ) (copy : LogCopy) (waiting : List PutRecord) → Shows log last given copy.mark.seen.log copy.edge (kept_in copy.records.items) waiting → given ≤ next → next ≤ length log
     → Shows log last next copy.mark.seen.log copy.edge (kept_in copy.records.items) waiting
 shows_given log last given next copy waiting shows le within = record { says = shows.says; shown = shows.shown; waits = shows.waits; bounded = omega (arith, shows.bounded, le); within = within }
 
@@ -158,12 +158,12 @@ on_err P Q (Ok a) b is m = absurd cc
 on_err P Q (Err e) b is m = subst Q (cc is) m
 
 -- what is shown once the record is published
-pub published_is : (log : List Record) (edge : Edge) (kept : List (Record × ℕ)) (s : Seen Entry ℕ Law) (last : ℕ) (pending waiting : List Put) (put : Put) → LiesFrom log edge kept → pending ≡ waiting ++ put ∷ [] → Waits log edge.place last waiting
+pub published_is : (log : List Record) (edge : Edge) (kept : List (Record × ℕ)) (s : Seen Entry ℕ Law) (last : ℕ) (pending waiting : List PutRecord) (put : PutRecord) → LiesFrom log edge kept → pending ≡ waiting ++ put ∷ [] → Waits log edge.place last waiting
     → put.place ≡ length log → last ≤ put.edge → put.edge ≤ length log
     → LiesBelow log put.edge (arc_value put.entry, put.restart) put.mark.seen
-    (fold (λ (x : Edge × List (Record × ℕ) × Seen Entry ℕ Law) (p : Put). (edge_entered p.place p.edge x.0 x.1, kept_entered p.place p.edge x.0 x.1 (arc_value p.entry, p.restart), p.mark.seen)) (edge, kept, s) pending)
+    (fold (λ (x : Edge × List (Record × ℕ) × Seen Entry ℕ Law) (p : PutRecord). (edge_entered p.place p.edge x.0 x.1, kept_entered p.place p.edge x.0 x.1 (arc_value p.entry, p.restart), p.mark.seen)) (edge, kept, s) pending)
 published_is log edge kept s last pending waiting put lies pending_is waits at le within =
-    let all = folded (λ (p : Put). (arc_value p.entry, p.restart)) (λ (p : Put). p.mark.seen) log edge kept [] s last waiting put lies waits at le within in
+    let all = folded (λ (p : PutRecord). (arc_value p.entry, p.restart)) (λ (p : PutRecord). p.mark.seen) log edge kept [] s last waiting put lies waits at le within in
     rw (pending_is) (rw (append-nil kept) at all)
 
 -- a copy that a record has entered
@@ -173,7 +173,7 @@ pub record IsGrown (name : Book) (log : List Record) (r : Record) (history : Lis
   pub named : copy.mark.seen.book ≡ name
   pub says : copy.mark.seen.log ≡ history
 
-pub grown_is : (name : Book) (log : List Record) (r : Record) (history : List Entry) (put : Put) (copy : LogCopy) (state : Edge × List (Record × ℕ) × Seen Entry ℕ Law) → IsPut name log r history put
+pub grown_is : (name : Book) (log : List Record) (r : Record) (history : List Entry) (put : PutRecord) (copy : LogCopy) (state : Edge × List (Record × ℕ) × Seen Entry ℕ Law) → IsPut name log r history put
     → ◌≡◌ {A = Edge × List (Record × ℕ) × Seen Entry ℕ Law} (copy.edge, kept_in copy.records.items, copy.mark.seen) state → LiesBelow log put.edge (arc_value put.entry, put.restart) put.mark.seen state → IsGrown name log r history put.edge copy
 grown_is name log r history put copy state enters is below =
     let edge : copy.edge ≡ state.0 = ap (λ x. x.0) is in
@@ -189,10 +189,10 @@ grown_is name log r history put copy state enters is below =
       says = ap (λ s. s.log) seen ∙ enters.says;
     }
 
-pub grown_by : (name : Book) (log : List Record) (r : Record) (history : List Entry) (put : Put) (old new : LogCopy) (last : ℕ) (pending waiting : List Put) → LiesFrom log old.edge (kept_in old.records.items) → Waits log old.edge.place last waiting
+pub grown_by : (name : Book) (log : List Record) (r : Record) (history : List Entry) (put : PutRecord) (old new : LogCopy) (last : ℕ) (pending waiting : List PutRecord) → LiesFrom log old.edge (kept_in old.records.items) → Waits log old.edge.place last waiting
     → last ≤ put.edge → put.edge ≤ length log → IsPut name log r history put → pending ≡ waiting ++ put ∷ []
     → ◌≡◌ {A = Edge × List (Record × ℕ) × Seen Entry ℕ Law} (new.edge, kept_in new.records.items, new.mark.seen)
-    (fold (λ (x : Edge × List (Record × ℕ) × Seen Entry ℕ Law) (p : Put). (edge_entered p.place p.edge x.0 x.1, kept_entered p.place p.edge x.0 x.1 (arc_value p.entry, p.restart), p.mark.seen)) (old.edge, kept_in old.records.items, old.mark.seen) pending)
+    (fold (λ (x : Edge × List (Record × ℕ) × Seen Entry ℕ Law) (p : PutRecord). (edge_entered p.place p.edge x.0 x.1, kept_entered p.place p.edge x.0 x.1 (arc_value p.entry, p.restart), p.mark.seen)) (old.edge, kept_in old.records.items, old.mark.seen) pending)
     → IsGrown name log r history put.edge new
 grown_by name log r history put old new last pending waiting lies waits further within enters pending_is is =
     let below = published_is log old.edge (kept_in old.records.items) old.mark.seen last pending waiting put lies pending_is waits enters.place further within in

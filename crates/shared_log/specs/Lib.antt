@@ -1,5 +1,5 @@
 pub mod Book
-pub mod Fronts
+pub mod SeenPrefixes
 pub mod Kept
 pub mod Openings
 pub mod Readers

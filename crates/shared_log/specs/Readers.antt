@@ -8,7 +8,7 @@ use Rattle.shared_log.specs.declared.histories.entry.Entry.{Entry}
 use Rattle.shared_log.specs.declared.fault.ReadFault.{ReadFault}
 use Rattle.shared_log.specs.declared.fault.ReadFault.TheVariants as reads
 use Rattle.shared_log.specs.declared.following.reader.LogReader.{LogReader}
-use Rattle.shared_log.specs.Fronts.{settled_records, shown_records}
+use Rattle.shared_log.specs.SeenPrefixes.{settled_records, shown_records}
 
 -- the log as its last entry found it
 abbrev pub seen_of : {L : Type 0} → LogReader L → List Record

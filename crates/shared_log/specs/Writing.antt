@@ -8,11 +8,11 @@ use Rattle.wal.specs.Log.{IsWellFormedLog, end_of}
 use Rattle.wal.specs.Restart.{oldest}
 use Rattle.shared_log.specs.declared.histories.entry.Entry.{Entry}
 use Rattle.shared_log.specs.declared.histories.copy.LogCopy.{LogCopy}
-use Rattle.shared_log.specs.declared.histories.copy.Put.{Put}
+use Rattle.shared_log.specs.declared.histories.copy.PutRecord.{PutRecord}
 use Rattle.shared_log.specs.declared.histories.edge.Edge.{Edge}
 use Rattle.shared_log.specs.declared.appending.openings.Openings.{Openings as Noted}
 use Rattle.shared_log.specs.declared.appending.outline.Outline.{Outline}
-use Rattle.shared_log.specs.Fronts.{settled_records, shown_records, open_from, ends_confirmed}
+use Rattle.shared_log.specs.SeenPrefixes.{settled_records, shown_records, open_from, ends_confirmed}
 use Rattle.shared_log.specs.Kept.{LiesFrom, given_after}
 use Rattle.shared_log.specs.Openings.{AreOpenings, is_end, owner_of}
 use Rattle.shared_log.specs.Telling.{TellsOf}
@@ -41,13 +41,13 @@ abbrev pub IsEmptyCopy : LogCopy → Type 0
 IsEmptyCopy copy = (copy.records.items ≡ []) × (copy.edge ≡ record { place = 0; restart = 0; position = FIRST_POSITION })
 
 -- Each record that still waits for a copy enters at the end of the log, and copies begin where it says, ever further on.
-abbrev pub Waits : List Record → (first last : ℕ) → List Put → Type 0
+abbrev pub Waits : List Record → (first last : ℕ) → List PutRecord → Type 0
 Waits log first last [] = first ≤ last
 Waits log first last (p ∷ ps) = (p.place ≡ length log) × (first ≤ p.edge) × Waits log p.edge last ps
 
 -- Readers see the log, of which the end lies in memory, and what still waits for a copy enters at its end. Copies begin no further on
 -- than records may be given back.
-pub record Shows (log : List Record) (last given : ℕ) (front : List Entry) (edge : Edge) (kept : List (Record × ℕ)) (waiting : List Put) : Type 0 where
+pub record Shows (log : List Record) (last given : ℕ) (front : List Entry) (edge : Edge) (kept : List (Record × ℕ)) (waiting : List PutRecord) : Type 0 where
   pub says : shown_records front ≡ log
   pub shown : LiesFrom log edge kept
   pub waits : Waits log edge.place last waiting
@@ -69,7 +69,7 @@ pub record IsOffered (front : List Entry) (outline : Outline) : Type 0 where
   pub short : length front < 2 ^ 62
 
 -- what enters a copy: a record at the end of a log, with its restart place, and the history that shows both
-pub record IsPut (name : Book) (log : List Record) (r : Record) (history : List Entry) (put : Put) : Type 0 where
+pub record IsPut (name : Book) (log : List Record) (r : Record) (history : List Entry) (put : PutRecord) : Type 0 where
   pub place : put.place ≡ length log
   pub entry : arc_value put.entry ≡ r
   pub restart : put.restart ≡ oldest (log ++ r ∷ [])

@@ -2,11 +2,11 @@
 
 pub(crate) mod copy;
 pub(crate) mod edge;
+pub(crate) mod empty_history;
 pub(crate) mod entry;
-pub(crate) mod front;
 pub(crate) mod history;
 pub(crate) mod law;
 pub(crate) mod mark;
 pub(crate) mod name;
-pub(crate) mod opened;
 pub(crate) mod rule;
+pub(crate) mod seen_prefix;

@@ -5,7 +5,7 @@ use Rattle.slots.specs.declared.by_name.directory.Directory.{Directory}
 use Rattle.slots.specs.declared.fault.SlotFault.{SlotFault}
 use Rattle.slots.specs.declared.fault.SlotFault.TheVariants as faults
 use Rattle.slots.specs.declared.words_kept.step.SlotKind.TheVariants.{Claim}
-use Rattle.slots.specs.declared.words_kept.step.View.{View}
+use Rattle.slots.specs.declared.words_kept.step.SeatView.{SeatView}
 use Rattle.slots.specs.Directories as names
 use Rattle.slots.specs.Facts.{Facts, facts, facts_after}
 use Rattle.slots.specs.Rule.{slot_step}
@@ -51,13 +51,13 @@ module _ (number : ℕ) (f : Facts) (state : f.state ≡ cond f.held (held_by nu
       by_test true h = let s = by_held true h in (h, ⊎_elim (λ t. let z = t.0 in absurd (omega (arith, s, is, z))) (λ u. ⊎_elim (λ t. let z = t.0 in absurd (omega (arith, s, is, z))) (λ t. t.1) u) (refusal_cases e x r))
 
 -- the slot that a name was found by
-pub record Found (v : View) (ss : List Slot) (name : List ℕ) (p : ℕ) : Type 0 where
+pub record Found (v : SeatView) (ss : List Slot) (name : List ℕ) (p : ℕ) : Type 0 where
   pub slot : NamedSlot
   pub of : slot_of name (map (shown_slot v) ss) ≡ Some slot
   pub at : SlotAt p v slot
   pub all : AllByRecursion (NamedThere name p) ss
 
-pub found_slot : (v : View) (d : Directory) (ss : List Slot) (places : ℕ) (name : List ℕ) (p : ℕ) → IsNamed d ss places → StandsIn v ss places → names.place_of d name ≡ Some p → Found v ss name p
+pub found_slot : (v : SeatView) (d : Directory) (ss : List Slot) (places : ℕ) (name : List ℕ) (p : ℕ) → IsNamed d ss places → StandsIn v ss places → names.place_of d name ≡ Some p → Found v ss name p
 found_slot v d ss places name p named stands found = by_slot (slot_of name (map (shown_slot v) ss)) refl
   where
     all : AllByRecursion (NamedThere name p) ss
@@ -70,7 +70,7 @@ found_slot v d ss places name p named stands found = by_slot (slot_of name (map 
     by_slot None none = let never : Option.None ≡ Option.Some p = sym (ap (option_map (λ (t : NamedSlot). t.place)) none) ∙ is in absurd cc
     by_slot (Some t) there = record { slot = t; of = there; at = slot_here v p ss t stands.each (sym (slot_as_named v name p ss all) ∙ there); all = all }
 
-module _ {A : Type 0} (place : A → ℕ) (v w : View) (d : Directory) (ss : List Slot) (places : ℕ) (name : List ℕ) (p : ℕ) (named : IsNamed d ss places) (stands : StandsIn v ss places) (found : names.place_of d name ≡ Some p) where
+module _ {A : Type 0} (place : A → ℕ) (v w : SeatView) (d : Directory) (ss : List Slot) (places : ℕ) (name : List ℕ) (p : ℕ) (named : IsNamed d ss places) (stands : StandsIn v ss places) (found : names.place_of d name ≡ Some p) where
   abbrev pub IsClaim : Result A SlotFault → Type 0
   IsClaim r = MatchResult r
       (λ lease. (place lease ≡ p) × Holds p w × Did Claim p 1 (held_by v.number) v w)
@@ -95,7 +95,7 @@ module _ {A : Type 0} (place : A → ℕ) (v w : View) (d : Directory) (ss : Lis
   pub claim_stands : (r : Result A SlotFault) → IsClaim r → StandsIn w ss places
   claim_stands (Ok lease) is = still_stands v w p _ (won is.2) ss ss places stands (named.below name p found) refl (λ e. let f = is.2.1.alone stands.alone low in omega (arith, e, f))
       (each_held v w p _ (won is.2) true refl refl refl ss stands.each)
-  claim_stands (Err e) is = stands_same v w (ap (λ (z : View). z.number) is.2.0) (ap (λ (z : View). z.seats) is.2.0) (lost e is.0 is.1 is.2) ss places stands
+  claim_stands (Err e) is = stands_same v w (ap (λ (z : SeatView). z.number) is.2.0) (ap (λ (z : SeatView). z.seats) is.2.0) (lost e is.0 is.1 is.2) ss places stands
 
   now_held : Did Claim p 1 (held_by v.number) v w → slots_in_view w ss places ≡ slots_after_claim name (slots_in_view v ss places)
   now_held did = ap (λ ts. record { slots = ts; places = places }) (all_shown_held v w p _ (won did) true refl refl refl ss ∙ at_as_named v name p (slot_with_hold true) ss the.all)
@@ -107,7 +107,7 @@ module _ {A : Type 0} (place : A → ℕ) (v w : View) (d : Directory) (ss : Lis
   pub claim_err : (s : SlotsState) → slots_in_view v ss places ≡ s → (r : Result A SlotFault) → IsClaim r → OnErr r (slots_in_view w ss places ≡ s)
   claim_err s old (Ok lease) is = tt
   claim_err s old (Err e) is = ap (λ ts. record { slots = ts; places = places })
-      (shown_same v w (ap (λ (z : View). z.number) is.2.0) (ap (λ (z : View). z.seats) is.2.0) (lost e is.0 is.1 is.2) ss)
+      (shown_same v w (ap (λ (z : SeatView). z.number) is.2.0) (ap (λ (z : SeatView). z.seats) is.2.0) (lost e is.0 is.1 is.2) ss)
       ∙ old
 
   pub claim_lease : (s : SlotsState) → slots_in_view v ss places ≡ s → (r : Result A SlotFault) → IsClaim r
@@ -137,7 +137,7 @@ module _ {A : Type 0} (place : A → ℕ) (v w : View) (d : Directory) (ss : Lis
       ap claim_refusal_of the.of ∙ ap (λ (b : Bool). cond b (Option.Some faults.InUse) None) (the.at.is_held ∙ h.0) ∙ ap (λ (x : SlotFault). Option.Some x) (sym h.1)
 
 -- what is done at a name's place is done to the slot of the name
-pub done_by_name : (v : View) (d : Directory) (ss : List Slot) (places : ℕ) (s : SlotsState) (p : ℕ) (change : NamedSlot → NamedSlot) → IsNamed d ss places → StandsIn v ss places → slots_in_view v ss places ≡ s
+pub done_by_name : (v : SeatView) (d : Directory) (ss : List Slot) (places : ℕ) (s : SlotsState) (p : ℕ) (change : NamedSlot → NamedSlot) → IsNamed d ss places → StandsIn v ss places → slots_in_view v ss places ≡ s
     → (name : List ℕ) → place_of name s ≡ Some p → map (if_at p change) s.slots ≡ map (if_named name change) s.slots
 done_by_name v d ss places s p change named stands old name found = subst (λ (t : SlotsState). map (if_at p change) t.slots ≡ map (if_named name change) t.slots) old
     (at_as_named v name p change ss (found_slot v d ss places name p named stands (named.same name ∙ sym (place_shown v name ss) ∙ ap (place_of name) old ∙ found)).all)

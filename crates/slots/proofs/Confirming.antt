@@ -1,7 +1,7 @@
 -- What reading and raising a position find, and leave.
 use Rattle.std.proofs.Common.{◌≡◌, ℕ, ◌<◌, max, Bool, true, false, cond, eqb, List, [], ◌∷◌, map, Option, Some, option_map, refl, sym, ap, ◌∙◌}
 use Rattle.slots.specs.declared.words_kept.step.SlotKind.TheVariants.{Raise, Read}
-use Rattle.slots.specs.declared.words_kept.step.View.{View}
+use Rattle.slots.specs.declared.words_kept.step.SeatView.{SeatView}
 use Rattle.slots.specs.Facts.{facts, facts_after}
 use Rattle.slots.specs.Rule.{slot_step}
 use Rattle.slots.specs.Seats.{DidAt}
@@ -13,7 +13,7 @@ use Rattle.slots.proofs.Listing.{places_noted}
 use Rattle.slots.proofs.NamedStanding.{IsHeldAt, all_alike, all_shown_noted, each_noted, is_low, is_made, still_stands}
 
 -- where the seat is alone it finds what it has left
-pub read_same : (v w : View) (p x : ℕ) → v.seats ≡ 1 → p < 1024 → DidAt Read p x x v w → (q : ℕ) → Alike (facts q v.steps) (facts q w.steps)
+pub read_same : (v w : SeatView) (p x : ℕ) → v.seats ≡ 1 → p < 1024 → DidAt Read p x x v w → (q : ℕ) → Alike (facts q v.steps) (facts q w.steps)
 read_same v w p x one low did = all_alike v w p _ (one_step v w (slot_step Read p x x) did.0) (record { state = refl; position = did.1.alone one low; held = refl })
 
 confirmed_there : (p by : ℕ) (ss : List NamedSlot) → slot_at p (map (if_at p (slot_with_confirmed by)) ss) ≡ option_map (slot_with_confirmed by) (slot_at p ss)
@@ -28,7 +28,7 @@ confirmed_there p by (s ∷ ss) = by_test (eqb s.place p) refl (confirmed_there 
     by_test true is later = ap (λ (b : Bool). cond b (Some (slot_with_confirmed by s)) rest) is
     by_test false is later = ap (λ (b : Bool). cond b (Some s) rest) is ∙ later
 
-module _ (v w : View) (p by to : ℕ) (ss : List Slot) (places : ℕ) (stands : StandsIn v ss places) (is : IsHeldAt p v ss) (raised : (x : ℕ) × (to ≡ max x by) × DidAt Raise p x to v w) where
+module _ (v w : SeatView) (p by to : ℕ) (ss : List Slot) (places : ℕ) (stands : StandsIn v ss places) (is : IsHeldAt p v ss) (raised : (x : ℕ) × (to ≡ max x by) × DidAt Raise p x to v w) where
   low : p < 1024
   low = is_low v p ss places stands is
 

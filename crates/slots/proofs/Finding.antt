@@ -3,7 +3,7 @@ use Rattle.std.proofs.Common.{◌≡◌, ℕ, Bool, true, false, cond, List, [],
 use Rattle.std.specs.Prelude.{IfSome, IsNone}
 use Rattle.std.specs.Str.{bytes_eq}
 use Rattle.slots.specs.declared.by_name.directory.Directory.{Directory}
-use Rattle.slots.specs.declared.words_kept.step.View.{View}
+use Rattle.slots.specs.declared.words_kept.step.SeatView.{SeatView}
 use Rattle.slots.specs.Directories as names
 use Rattle.slots.specs.Facts.{facts}
 use Rattle.slots.specs.declared.by_name.slot.Slot.{Slot}
@@ -12,7 +12,7 @@ use Rattle.slots.specs.Keeping.{IsNamed, StandsIn, shown_slot, slots_in_view}
 use Rattle.slots.proofs.Names.{none_shown, only_shown, place_shown, slot_as_named}
 use Rattle.slots.proofs.Claiming.{Found, found_slot}
 
-alike_shown : (v : View) (p : ℕ) (ss : List Slot) → IsHeldAs (facts p v.steps).held p (map (shown_slot v) ss)
+alike_shown : (v : SeatView) (p : ℕ) (ss : List Slot) → IsHeldAs (facts p v.steps).held p (map (shown_slot v) ss)
 alike_shown v p [] = tt
 alike_shown v p (s ∷ ss) = (λ is. ap (λ (q : ℕ). (facts q v.steps).held) is, alike_shown v p ss)
 
@@ -24,7 +24,7 @@ none_named name (s ∷ ss) none = by_test (bytes_eq s.name name) none (none_name
     by_test true is later = absurd cc
     by_test false is later = (refl, later is)
 
-module _ (v : View) (d : Directory) (ss : List Slot) (places : ℕ) (name : List ℕ) (named : IsNamed d ss places) (stands : StandsIn v ss places) (s : SlotsState) (is : slots_in_view v ss places ≡ s) where
+module _ (v : SeatView) (d : Directory) (ss : List Slot) (places : ℕ) (name : List ℕ) (named : IsNamed d ss places) (stands : StandsIn v ss places) (s : SlotsState) (is : slots_in_view v ss places ≡ s) where
   pub only_at : (o : Option ℕ) → o ≡ names.place_of d name → IfSome o (λ p. IsOnlyAt name p s.slots)
   only_at None found = tt
   only_at (Some p) found = subst (λ (t : SlotsState). IsOnlyAt name p t.slots) is (only_shown v name p ss (found_slot v d ss places name p named stands (sym found)).all)

@@ -82,9 +82,9 @@ module _ {A : Type 0} (place : A → ℕ) where
 
 -- ---- No slots, and no leases.
 
-pub none_behind : (ls : List (Option ℕ)) → AllByRecursion (λ (o : Option ℕ). o ≡ None) ls → AllByRecursion (λ (o : Option ℕ). o ≡ None) (ls ++ None ∷ [])
-none_behind [] all = (refl, tt)
-none_behind (o ∷ ls) all = (all.0, none_behind ls all.1)
+pub none_after : (ls : List (Option ℕ)) → AllByRecursion (λ (o : Option ℕ). o ≡ None) ls → AllByRecursion (λ (o : Option ℕ). o ≡ None) (ls ++ None ∷ [])
+none_after [] all = (refl, tt)
+none_after (o ∷ ls) all = (all.0, none_after ls all.1)
 
 pub none_leased : (s : SlotsState) (ls : List (Option ℕ)) → ((q : ℕ) → holds_at q s ≡ false) → AllByRecursion (λ (o : Option ℕ). o ≡ None) ls → AreLeases s ls
 none_leased s ls free all q o found = subst (λ (x : Option ℕ). IsLeasedAs s q x) (sym (is_none ls all q o found)) (free q)

@@ -7,22 +7,22 @@ use lib.ListN.{get_elem?}
 use Rattle.atomic_table.specs.Table.{State}
 use Rattle.atomic_table.proofs.Lists.{at_set}
 use Rattle.slots.specs.declared.words_kept.step.SlotStep.{SlotStep}
-use Rattle.slots.specs.declared.words_kept.step.View.{View}
+use Rattle.slots.specs.declared.words_kept.step.SeatView.{SeatView}
 use Rattle.slots.specs.Facts.{Facts, facts}
 use Rattle.slots.specs.Rule.{Agrees, Leaves, Kept, line_of, with_step, state_at, state_word, position_word}
 use Rattle.slots.proofs.Facts.{facts_there}
 
 abbrev pub St : Type 0
-St = State (Unit {0}) View
+St = State (Unit {0}) SeatView
 
 -- a list of one value has it at 0
-pub at_one : (l : List View) (j : ℕ) (w : View) → get_elem? l j ≡ some w → length l ≡ 1 → j ≡ 0
+pub at_one : (l : List SeatView) (j : ℕ) (w : SeatView) → get_elem? l j ≡ some w → length l ≡ 1 → j ≡ 0
 at_one [] j w e one = absurd (omega arith)
 at_one (x ∷ xs) zero w e one = refl
 at_one (x ∷ []) (suc j) w e one = absurd (some-ne-none w (sym e))
 at_one (x ∷ y ∷ ys) (suc j) w e one = absurd (omega arith)
 
-module _ (s : St) (kept : Kept s) (id : ℕ) (v : View) (at : get_elem? s.views id ≡ some v) (p : ℕ) (st : SlotStep) (here : st.place ≡ p) where
+module _ (s : St) (kept : Kept s) (id : ℕ) (v : SeatView) (at : get_elem? s.views id ≡ some v) (p : ℕ) (st : SlotStep) (here : st.place ≡ p) where
   abbrev after : List ℕ → St
   after ws = record { words = ws; homes = s.homes; views = set s.views id (with_step v st) }
 
@@ -36,9 +36,9 @@ module _ (s : St) (kept : Kept s) (id : ℕ) (v : View) (at : get_elem? s.views 
   pub record Owed (word position : ℕ) : Type 0 where
     pub small : word % 4096 < 3 + length s.views
     pub own : Agrees (state_at p word) position id (facts p (v.steps ++ st ∷ []))
-    pub others : (k : ℕ) (u : View) → k ≢ id → get_elem? s.views k ≡ some u → Agrees (state_at p word) position k (facts p u.steps)
+    pub others : (k : ℕ) (u : SeatView) → k ≢ id → get_elem? s.views k ≡ some u → Agrees (state_at p word) position k (facts p u.steps)
     -- of the other places of the line
-    pub beside : (q k : ℕ) (u : View) → line_of q ≡ line_of p → q ≢ p → get_elem? s.views k ≡ some u → Agrees (state_at q old_word) old_position k (facts q u.steps) → Agrees (state_at q word) position k (facts q u.steps)
+    pub beside : (q k : ℕ) (u : SeatView) → line_of q ≡ line_of p → q ≢ p → get_elem? s.views k ≡ some u → Agrees (state_at q old_word) old_position k (facts q u.steps) → Agrees (state_at q word) position k (facts q u.steps)
     -- where there is one seat
     pub leaves : p < 1024 → (state_at p old_word ≡ (facts p v.steps).state) × (old_word / 4096 ≡ 0 → old_position ≡ (facts p v.steps).position)
         → (state_at p word ≡ (facts p (v.steps ++ st ∷ [])).state) × (word / 4096 ≡ 0 → position ≡ (facts p (v.steps ++ st ∷ [])).position)
@@ -56,7 +56,7 @@ module _ (s : St) (kept : Kept s) (id : ℕ) (v : View) (at : get_elem? s.views 
     agrees_on q line k g a = let e = words_on q line in subst (λ (z : ℕ × ℕ). Agrees (state_at q z.0) z.1 k g) (λ i. (sym e.0 i, sym e.1 i)) a
 
     -- what was before, of a place of the line
-    before_on : (q : ℕ) → line_of q ≡ line_of p → (k : ℕ) (u : View) → get_elem? s.views k ≡ some u → Agrees (state_at q old_word) old_position k (facts q u.steps)
+    before_on : (q : ℕ) → line_of q ≡ line_of p → (k : ℕ) (u : SeatView) → get_elem? s.views k ≡ some u → Agrees (state_at q old_word) old_position k (facts q u.steps)
     before_on q line k u found = subst (λ (l : ℕ). Agrees (state_at q (slice_index s.words (l * 8))) (slice_index s.words (l * 8 + 1)) k (facts q u.steps)) line (kept.places q k u found)
 
     left_before : (q : ℕ) → line_of q ≡ line_of p → length s.views ≡ 1 → q < 1024 → (state_at q old_word ≡ (facts q v.steps).state) × (old_word / 4096 ≡ 0 → old_position ≡ (facts q v.steps).position)
@@ -77,7 +77,7 @@ module _ (s : St) (kept : Kept s) (id : ℕ) (v : View) (at : get_elem? s.views 
         (cases_eq (line_of q) (line_of p))))
         (cases_eq q p)
 
-    other_place : (q k : ℕ) (u : View) → k ≢ id → get_elem? s.views k ≡ some u → Agrees (state_at q (slice_index ws (state_word q))) (slice_index ws (position_word q)) k (facts q u.steps)
+    other_place : (q k : ℕ) (u : SeatView) → k ≢ id → get_elem? s.views k ≡ some u → Agrees (state_at q (slice_index ws (state_word q))) (slice_index ws (position_word q)) k (facts q u.steps)
     other_place q k u ne found = ⊎_elim
         (λ line. agrees_on q line k _ (⊎_elim
         (λ e. subst (λ (r : ℕ). Agrees (state_at r word) position k (facts r u.steps)) (sym e) (owed.others k u ne found))
@@ -103,21 +103,21 @@ module _ (s : St) (kept : Kept s) (id : ℕ) (v : View) (at : get_elem? s.views 
         (cases_eq (line_of q) (line_of p))))
         (cases_eq q p)
 
-    other_leaves : length s.views ≡ 1 → (q k : ℕ) (u : View) → k ≢ id → get_elem? s.views k ≡ some u → Leaves ws q u
+    other_leaves : length s.views ≡ 1 → (q k : ℕ) (u : SeatView) → k ≢ id → get_elem? s.views k ≡ some u → Leaves ws q u
     other_leaves one q k u ne found = absurd (ne (only k u found ∙ sym (only id v at)))
       where
-        only : (j : ℕ) (w : View) → get_elem? s.views j ≡ some w → j ≡ 0
+        only : (j : ℕ) (w : SeatView) → get_elem? s.views j ≡ some w → j ≡ 0
         only j w is = at_one s.views j w is one
 
     pub moves : Kept (after ws)
     moves = let long = length-set s.views id (with_step v st) in record {
       wide = wide;
       numbered = λ k u is. ⊎_elim
-          (λ t. let n = kept.numbered id v at in let e = t.1 in (ap (λ (w : View). w.number) (sym e) ∙ n.0 ∙ sym t.0, λ more. long ∙ n.1 (subst (λ (w : View). 0 < w.seats) (sym e) more) ∙ ap (λ (w : View). w.seats) e))
+          (λ t. let n = kept.numbered id v at in let e = t.1 in (ap (λ (w : SeatView). w.number) (sym e) ∙ n.0 ∙ sym t.0, λ more. long ∙ n.1 (subst (λ (w : SeatView). 0 < w.seats) (sym e) more) ∙ ap (λ (w : SeatView). w.seats) e))
           (λ t. let n = kept.numbered k u t.1 in (n.0, λ more. long ∙ n.1 more))
           (at_set s.views id k (with_step v st) u is);
       first = λ k u is more. ⊎_elim
-          (λ t. t.0 ∙ kept.first id v at (subst (λ (w : View). 0 < w.seats) (sym t.1) more))
+          (λ t. t.0 ∙ kept.first id v at (subst (λ (w : SeatView). 0 < w.seats) (sym t.1) more))
           (λ t. kept.first k u t.1 more)
           (at_set s.views id k (with_step v st) u is);
       few = let f = kept.few in omega (arith, long, f);
@@ -126,11 +126,11 @@ module _ (s : St) (kept : Kept s) (id : ℕ) (v : View) (at : get_elem? s.views 
           (λ off. subst (λ (x : ℕ). x % 4096 < 3 + length (after ws).views) (sym (same q off).0) (let old = kept.names q in omega (arith, old, long)))
           (cases_eq (line_of q) (line_of p));
       places = λ q k u is. ⊎_elim
-          (λ t. subst (λ (w : View). Agrees (state_at q (slice_index ws (state_word q))) (slice_index ws (position_word q)) k (facts q w.steps)) t.1 (subst (λ (j : ℕ). Agrees (state_at q (slice_index ws (state_word q))) (slice_index ws (position_word q)) j (facts q (v.steps ++ st ∷ []))) (sym t.0) (own_place q)))
+          (λ t. subst (λ (w : SeatView). Agrees (state_at q (slice_index ws (state_word q))) (slice_index ws (position_word q)) k (facts q w.steps)) t.1 (subst (λ (j : ℕ). Agrees (state_at q (slice_index ws (state_word q))) (slice_index ws (position_word q)) j (facts q (v.steps ++ st ∷ []))) (sym t.0) (own_place q)))
           (λ t. other_place q k u t.0 t.1)
           (at_set s.views id k (with_step v st) u is);
       alone = λ one q k u lower is. let one' = sym long ∙ one in ⊎_elim
-          (λ t. subst (λ (w : View). Leaves ws q w) t.1 (own_leaves one' q lower))
+          (λ t. subst (λ (w : SeatView). Leaves ws q w) t.1 (own_leaves one' q lower))
           (λ t. other_leaves one' q k u t.0 t.1)
           (at_set s.views id k (with_step v st) u is);
     }

@@ -3,7 +3,7 @@ use Rattle.std.proofs.Common.{◌≡◌, ℕ, zero, suc, ◌+◌, ◌<◌, ◌�
 use Rattle.std.proofs.lemmas.Bool.{cases_eq, cases_lt}
 use Rattle.slots.specs.declared.words_kept.step.SlotKind.TheVariants.{Create, Raise, Release}
 use Rattle.slots.specs.declared.words_kept.step.SlotStep.{SlotStep}
-use Rattle.slots.specs.declared.words_kept.step.View.{View}
+use Rattle.slots.specs.declared.words_kept.step.SeatView.{SeatView}
 use Rattle.slots.specs.Facts.{Facts, facts, facts_after}
 use Rattle.slots.specs.Rule.{slot_step}
 use Rattle.slots.specs.Seats.{AreTaken, Created, NoneLeft, steps_past}
@@ -14,7 +14,7 @@ use Rattle.slots.specs.Keeping.{StandsIn}
 use Rattle.slots.proofs.NamedFacts.{Alike, Changes, alike, alike_then}
 use Rattle.slots.proofs.NamedStanding.{used_made}
 
-module _ (v : View) (one : v.seats ≡ 1) where
+module _ (v : SeatView) (one : v.seats ≡ 1) where
   -- places that were found taken are as they were
   taken_step : (i x : ℕ) (ss : List SlotStep) → (x ≡ 0 → ⊥) → x ≡ (facts i v.steps).state → ((q : ℕ) → Alike (facts q v.steps) (facts q ss))
       → (q : ℕ) → Alike (facts q v.steps) (facts q (ss ++ slot_step Create i x x ∷ []))
@@ -42,7 +42,7 @@ module _ (v : View) (one : v.seats ≡ 1) where
   pub was_taken : (xs : List ℕ) → length xs ≤ 1024 → AreTaken v 0 xs → (k : ℕ) → k < length xs → (facts k v.steps).state ≡ 0 → ⊥
   was_taken xs few taken k low zero_there = taken_from 0 xs (omega (arith, few)) taken k low (ap (λ (r : ℕ). (facts r v.steps).state) (let e : 0 + k ≡ k = omega arith in e) ∙ zero_there)
 
-module _ (v w : View) (position p : ℕ) (ss : List Slot) (places : ℕ) (stands : StandsIn v ss places) (within : p < 16) (made : Created v position p w) where
+module _ (v w : SeatView) (position p : ℕ) (ss : List Slot) (places : ℕ) (stands : StandsIn v ss places) (within : p < 16) (made : Created v position p w) where
   few : length made.founds ≤ 1024
   few = let n = made.count in omega (arith, n, within)
 
@@ -72,13 +72,13 @@ module _ (v w : View) (position p : ℕ) (ss : List Slot) (places : ℕ) (stands
   left = facts_after let_go (facts_after raise (facts_after take (facts p before)))
 
   all_steps : w.steps ≡ ((before ++ take ∷ []) ++ raise ∷ []) ++ let_go ∷ []
-  all_steps = ap (λ (z : View). z.steps) made.steps
+  all_steps = ap (λ (z : SeatView). z.steps) made.steps
       ∙ sym (append_assoc (before ++ take ∷ []) (raise ∷ []) (let_go ∷ []) ∙ append_assoc before (take ∷ []) (raise ∷ let_go ∷ []) ∙ append_assoc v.steps (steps_past 0 made.founds) (take ∷ raise ∷ let_go ∷ []))
 
   pub created_changes : Changes v w p left
   created_changes = record {
-    number = ap (λ (z : View). z.number) made.steps;
-    seats = ap (λ (z : View). z.seats) made.steps;
+    number = ap (λ (z : SeatView). z.number) made.steps;
+    seats = ap (λ (z : SeatView). z.seats) made.steps;
     here = alike _ _ (ap (facts p) all_steps ∙ facts_here p ((before ++ take ∷ []) ++ raise ∷ []) let_go refl
         ∙ ap (facts_after let_go) (facts_here p (before ++ take ∷ []) raise refl ∙ ap (facts_after raise) (facts_here p before take refl)));
     there = λ q not. alike_then (facts q v.steps) (facts q before) (facts q w.steps) (passed_alike v stands.alone made.founds few made.taken q)
@@ -89,11 +89,11 @@ module _ (v w : View) (position p : ℕ) (ss : List Slot) (places : ℕ) (stands
   pub left_position : left.position ≡ position
   left_position = let e = made.follows.alone stands.alone (omega (arith, within)) in let u = (stands.unused p (let n = is_next in omega (arith, n))).1 in omega (arith, e, u)
 
-pub none_left : (v w : View) (ss : List Slot) (places : ℕ) → StandsIn v ss places → NoneLeft v w → places ≡ 16
+pub none_left : (v w : SeatView) (ss : List Slot) (places : ℕ) → StandsIn v ss places → NoneLeft v w → places ≡ 16
 none_left v w ss places stands none = ⊎_elim
     (λ low. let n = none.count in absurd (was_taken v stands.alone none.founds (omega (arith, n)) none.taken places (omega (arith, n, low)) (stands.unused places (let e : places ≤ places = omega arith in e)).0))
     (λ high. let f = stands.few in omega (arith, high, f))
     (cases_lt places 16)
 
-pub none_same : (v w : View) (ss : List Slot) (places : ℕ) → StandsIn v ss places → NoneLeft v w → (q : ℕ) → Alike (facts q v.steps) (facts q w.steps)
-none_same v w ss places stands none q = subst (λ (l : List SlotStep). Alike (facts q v.steps) (facts q l)) (sym (ap (λ (z : View). z.steps) none.steps)) (passed_alike v stands.alone none.founds (let n = none.count in omega (arith, n)) none.taken q)
+pub none_same : (v w : SeatView) (ss : List Slot) (places : ℕ) → StandsIn v ss places → NoneLeft v w → (q : ℕ) → Alike (facts q v.steps) (facts q w.steps)
+none_same v w ss places stands none q = subst (λ (l : List SlotStep). Alike (facts q v.steps) (facts q l)) (sym (ap (λ (z : SeatView). z.steps) none.steps)) (passed_alike v stands.alone none.founds (let n = none.count in omega (arith, n)) none.taken q)

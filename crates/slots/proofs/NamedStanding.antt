@@ -3,7 +3,7 @@ use Rattle.std.proofs.Common.{◌≡◌, ℕ, ◌<◌, inl, inr, max, Bool, true
 use Rattle.std.specs.List.{AllByRecursion, Contains}
 use Rattle.std.proofs.lemmas.Bool.{cases_eq, cases_lt}
 use Rattle.std.proofs.lemmas.List.Elements.{All-contains, All-from_recursion}
-use Rattle.slots.specs.declared.words_kept.step.View.{View}
+use Rattle.slots.specs.declared.words_kept.step.SeatView.{SeatView}
 use Rattle.slots.specs.Facts.{Facts, facts}
 use Rattle.slots.specs.Standings.{held_by}
 use Rattle.slots.specs.declared.by_name.slot.Slot.{Slot}
@@ -19,7 +19,7 @@ fits_alike : (n m c : ℕ) (f g : Facts) → m ≡ n → Alike f g → Fits n c 
 fits_alike n m c f g e a fits = (fits.0 ∙ sym a.position, a.state ∙ fits.1 ∙ ap₂ (λ (b : Bool) (k : ℕ). cond b (held_by k) 1) (sym a.held) (sym e))
 
 -- the slot at the place, its position noted anew
-pub record SlotAt (p : ℕ) (v : View) (s : NamedSlot) : Type 0 where
+pub record SlotAt (p : ℕ) (v : SeatView) (s : NamedSlot) : Type 0 where
   pub place : s.place ≡ p
   pub confirmed : s.confirmed ≡ (facts p v.steps).position
   pub is_held : s.is_held ≡ (facts p v.steps).held
@@ -35,7 +35,7 @@ same_inside x y e = ap (λ o. or_that x o) e
     or_that d None = d
     or_that d (Some z) = z
 
-pub slot_here : (v : View) (p : ℕ) (ss : List Slot) (t : NamedSlot) → AllByRecursion (Stands v) ss → slot_at p (map (shown_slot v) ss) ≡ Some t → SlotAt p v t
+pub slot_here : (v : SeatView) (p : ℕ) (ss : List Slot) (t : NamedSlot) → AllByRecursion (Stands v) ss → slot_at p (map (shown_slot v) ss) ≡ Some t → SlotAt p v t
 slot_here v p [] t all e = absurd (none_is_no t e)
 slot_here v p (s ∷ ss) t all e = ⊎_elim
     (λ is. let same = same_inside (shown_slot v s) t (sym (ap (λ (b : Bool). cond b (Option.Some (shown_slot v s)) (slot_at p (map (shown_slot v) ss))) (eq-eqb s.place p is)) ∙ e) in
@@ -44,13 +44,13 @@ slot_here v p (s ∷ ss) t all e = ⊎_elim
     (cases_eq s.place p)
 
 -- a place that is held as the slots are shown is held as its steps say
-pub record IsHeldAt (p : ℕ) (v : View) (ss : List Slot) : Type 0 where
+pub record IsHeldAt (p : ℕ) (v : SeatView) (ss : List Slot) : Type 0 where
   pub slot : NamedSlot
   pub found : slot_at p (map (shown_slot v) ss) ≡ Some slot
   pub at : SlotAt p v slot
   pub held : (facts p v.steps).held ≡ true
 
-pub held_at : (v : View) (p : ℕ) (ss : List Slot) → AllByRecursion (Stands v) ss → is_in_use (slot_at p (map (shown_slot v) ss)) ≡ true → IsHeldAt p v ss
+pub held_at : (v : SeatView) (p : ℕ) (ss : List Slot) → AllByRecursion (Stands v) ss → is_in_use (slot_at p (map (shown_slot v) ss)) ≡ true → IsHeldAt p v ss
 held_at v p ss all e = by_slot (slot_at p (map (shown_slot v) ss)) refl e
   where
     by_slot : (o : Option NamedSlot) → slot_at p (map (shown_slot v) ss) ≡ o → is_in_use o ≡ true → IsHeldAt p v ss
@@ -59,7 +59,7 @@ held_at v p ss all e = by_slot (slot_at p (map (shown_slot v) ss)) refl e
 
 -- ---- After a change at a place.
 
-module _ (v w : View) (p : ℕ) (g : Facts) (changes : Changes v w p g) where
+module _ (v w : SeatView) (p : ℕ) (g : Facts) (changes : Changes v w p g) where
   stands_else : (s : Slot) → (s.place ≡ p → ⊥) → Stands v s → Stands w s
   stands_else s not stands = fits_alike v.number w.number s.confirmed _ _ changes.number (changes.there s.place not) stands
 
@@ -151,35 +151,35 @@ stands_made : (number state : ℕ) (b : Bool) → state ≡ cond b (held_by numb
 stands_made number state true is zero = omega (arith, is, zero)
 stands_made number state false is zero = omega (arith, is, zero)
 
-abbrev IsMade : View → ℕ → Type 0
+abbrev IsMade : SeatView → ℕ → Type 0
 IsMade v p = (facts p v.steps).state ≡ 0 → ⊥
 
-all_made : (v : View) (ss : List Slot) → AllByRecursion (Stands v) ss → AllByRecursion (IsMade v) (places_in ss)
+all_made : (v : SeatView) (ss : List Slot) → AllByRecursion (Stands v) ss → AllByRecursion (IsMade v) (places_in ss)
 all_made v [] all = tt
 all_made v (s ∷ ss) all = (stands_made v.number (facts s.place v.steps).state (facts s.place v.steps).held all.0.1, all_made v ss all.1)
 
 -- a place that is used up was made
-pub used_made : (v : View) (ss : List Slot) (places : ℕ) → StandsIn v ss places → (p : ℕ) → p < places → (facts p v.steps).state ≡ 0 → ⊥
+pub used_made : (v : SeatView) (ss : List Slot) (places : ℕ) → StandsIn v ss places → (p : ℕ) → p < places → (facts p v.steps).state ≡ 0 → ⊥
 used_made v ss places s p low = ⊎_elim
     (λ there. All-contains (IsMade v) (places_in ss) p (All-from_recursion (IsMade v) (places_in ss) (all_made v ss s.each)) there)
     (λ gone zero. omega (arith, gone, zero))
     (s.used p low)
 
 -- a place that is held has the word of its seat, and so it was made
-pub held_word : (v : View) (p : ℕ) (ss : List Slot) → IsHeldAt p v ss → (facts p v.steps).state ≡ held_by v.number
+pub held_word : (v : SeatView) (p : ℕ) (ss : List Slot) → IsHeldAt p v ss → (facts p v.steps).state ≡ held_by v.number
 held_word v p ss is = is.at.fits.1 ∙ ap (λ (b : Bool). cond b (held_by v.number) 1) is.held
 
-pub is_made : (v : View) (p : ℕ) (ss : List Slot) (places : ℕ) → StandsIn v ss places → IsHeldAt p v ss → p < places
+pub is_made : (v : SeatView) (p : ℕ) (ss : List Slot) (places : ℕ) → StandsIn v ss places → IsHeldAt p v ss → p < places
 is_made v p ss places s is = ⊎_elim
     (λ low. low)
     (λ high. let none = (s.unused p high).0 in let word = held_word v p ss is in absurd (omega (arith, none, word)))
     (cases_lt p places)
 
-pub is_low : (v : View) (p : ℕ) (ss : List Slot) (places : ℕ) → StandsIn v ss places → IsHeldAt p v ss → p < 1024
+pub is_low : (v : SeatView) (p : ℕ) (ss : List Slot) (places : ℕ) → StandsIn v ss places → IsHeldAt p v ss → p < 1024
 is_low v p ss places s is = let b = is_made v p ss places s is in let f = s.few in omega (arith, b, f)
 
 -- ---- After steps that change nothing.
-module _ (v w : View) (number : w.number ≡ v.number) (seats : w.seats ≡ v.seats) (same : (q : ℕ) → Alike (facts q v.steps) (facts q w.steps)) where
+module _ (v w : SeatView) (number : w.number ≡ v.number) (seats : w.seats ≡ v.seats) (same : (q : ℕ) → Alike (facts q v.steps) (facts q w.steps)) where
   each_same : (ss : List Slot) → AllByRecursion (Stands v) ss → AllByRecursion (Stands w) ss
   each_same [] all = tt
   each_same (s ∷ ss) all = (fits_alike v.number w.number s.confirmed _ _ number (same s.place) all.0, each_same ss all.1)
@@ -198,7 +198,7 @@ module _ (v w : View) (number : w.number ≡ v.number) (seats : w.seats ≡ v.se
     each = each_same ss s.each;
   }
 
-pub all_alike : (v w : View) (p : ℕ) (g : Facts) → Changes v w p g → Alike (facts p v.steps) g → (q : ℕ) → Alike (facts q v.steps) (facts q w.steps)
+pub all_alike : (v w : SeatView) (p : ℕ) (g : Facts) → Changes v w p g → Alike (facts p v.steps) g → (q : ℕ) → Alike (facts q v.steps) (facts q w.steps)
 all_alike v w p g changes a q = ⊎_elim
     (λ is. subst (λ (r : ℕ). Alike (facts r v.steps) (facts r w.steps)) (sym is) (alike_then (facts p v.steps) g (facts p w.steps) a changes.here))
     (λ not. changes.there q not)

@@ -6,18 +6,18 @@ use Rattle.std.specs.Str.{bytes_eq}
 use Rattle.std.proofs.lemmas.Bool.{cases_eq, cases_Bool}
 use Rattle.std.proofs.lemmas.Slice.Eq.{bytes_eq-Decides}
 use Rattle.slots.specs.declared.by_name.directory.Directory.{Directory}
-use Rattle.slots.specs.declared.words_kept.step.View.{View}
+use Rattle.slots.specs.declared.words_kept.step.SeatView.{SeatView}
 use Rattle.slots.specs.Directories as names
 use Rattle.slots.specs.declared.by_name.slot.Slot.{Slot}
 use Rattle.slots.specs.State.{IsOnlyAt, NamedSlot, if_at, if_named, slot_at, slot_of}
 use Rattle.slots.specs.Keeping.{IsNamed, place_in, shown_slot, confirmed_slot}
 
-pub lent : (v : View) (ss : List Slot) → map confirmed_slot (map (shown_slot v) ss) ≡ ss
+pub lent : (v : SeatView) (ss : List Slot) → map confirmed_slot (map (shown_slot v) ss) ≡ ss
 lent v [] = refl
 lent v (s ∷ ss) = ap (λ (l : List Slot). s ∷ l) (lent v ss)
 
 -- the list of slots tells the place of a name as the directory does
-pub place_shown : (v : View) (name : List ℕ) (ss : List Slot) → option_map (λ (t : NamedSlot). t.place) (slot_of name (map (shown_slot v) ss)) ≡ place_in name ss
+pub place_shown : (v : SeatView) (name : List ℕ) (ss : List Slot) → option_map (λ (t : NamedSlot). t.place) (slot_of name (map (shown_slot v) ss)) ≡ place_in name ss
 place_shown v name [] = refl
 place_shown v name (s ∷ ss) = by_test (bytes_eq s.name name) (place_shown v name ss)
   where
@@ -52,17 +52,17 @@ module _ (d : Directory) (name : List ℕ) (p : ℕ) (found : names.place_of d n
   all_named_there (s ∷ ss) one all = (named_there s one all.0, all_named_there ss one all.1)
 
 -- then what is done at the place is done to the slot of the name
-pub at_as_named : (v : View) (name : List ℕ) (p : ℕ) (change : NamedSlot → NamedSlot) (ss : List Slot) → AllByRecursion (NamedThere name p) ss
+pub at_as_named : (v : SeatView) (name : List ℕ) (p : ℕ) (change : NamedSlot → NamedSlot) (ss : List Slot) → AllByRecursion (NamedThere name p) ss
     → map (if_at p change) (map (shown_slot v) ss) ≡ map (if_named name change) (map (shown_slot v) ss)
 at_as_named v name p change [] all = refl
 at_as_named v name p change (s ∷ ss) all = ap₂ (λ (t : NamedSlot) (ts : List NamedSlot). t ∷ ts)
     (ap (λ (b : Bool). cond b (change (shown_slot v s)) (shown_slot v s)) (sym all.0)) (at_as_named v name p change ss all.1)
 
-pub only_shown : (v : View) (name : List ℕ) (p : ℕ) (ss : List Slot) → AllByRecursion (NamedThere name p) ss → IsOnlyAt name p (map (shown_slot v) ss)
+pub only_shown : (v : SeatView) (name : List ℕ) (p : ℕ) (ss : List Slot) → AllByRecursion (NamedThere name p) ss → IsOnlyAt name p (map (shown_slot v) ss)
 only_shown v name p [] all = tt
 only_shown v name p (s ∷ ss) all = (all.0, only_shown v name p ss all.1)
 
-pub slot_as_named : (v : View) (name : List ℕ) (p : ℕ) (ss : List Slot) → AllByRecursion (NamedThere name p) ss → slot_of name (map (shown_slot v) ss) ≡ slot_at p (map (shown_slot v) ss)
+pub slot_as_named : (v : SeatView) (name : List ℕ) (p : ℕ) (ss : List Slot) → AllByRecursion (NamedThere name p) ss → slot_of name (map (shown_slot v) ss) ≡ slot_at p (map (shown_slot v) ss)
 slot_as_named v name p [] all = refl
 slot_as_named v name p (s ∷ ss) all = ap₂ (λ (b : Bool) (o : Option NamedSlot). cond b (Some (shown_slot v s)) o) all.0 (slot_as_named v name p ss all.1)
 
@@ -71,10 +71,10 @@ is_some_map f None = refl
 is_some_map f (Some t) = refl
 
 -- a name is shown where the directory has it
-pub there_shown : (v : View) (d : Directory) (ss : List Slot) (places : ℕ) (name : List ℕ) → IsNamed d ss places → is_some (slot_of name (map (shown_slot v) ss)) ≡ is_some (names.place_of d name)
+pub there_shown : (v : SeatView) (d : Directory) (ss : List Slot) (places : ℕ) (name : List ℕ) → IsNamed d ss places → is_some (slot_of name (map (shown_slot v) ss)) ≡ is_some (names.place_of d name)
 there_shown v d ss places name named = sym (is_some_map (λ (t : NamedSlot). t.place) (slot_of name (map (shown_slot v) ss))) ∙ ap is_some (place_shown v name ss ∙ sym (named.same name))
 
-pub none_shown : (v : View) (d : Directory) (ss : List Slot) (places : ℕ) (name : List ℕ) → IsNamed d ss places → names.place_of d name ≡ None → slot_of name (map (shown_slot v) ss) ≡ None
+pub none_shown : (v : SeatView) (d : Directory) (ss : List Slot) (places : ℕ) (name : List ℕ) → IsNamed d ss places → names.place_of d name ≡ None → slot_of name (map (shown_slot v) ss) ≡ None
 none_shown v d ss places name named none = by_slot (slot_of name (map (shown_slot v) ss)) refl
   where
     by_slot : (o : Option NamedSlot) → slot_of name (map (shown_slot v) ss) ≡ o → slot_of name (map (shown_slot v) ss) ≡ None

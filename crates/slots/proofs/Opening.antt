@@ -2,7 +2,7 @@
 use Rattle.std.proofs.Common.{◌≡◌, ℕ, List, [], ◌∷◌, ◌++◌, Some, None, refl, sym, subst, ◌∙◌, arith}
 use Rattle.std.proofs.lemmas.List.{same_from_push}
 use Rattle.slots.specs.declared.by_name.directory.Directory.{Directory}
-use Rattle.slots.specs.declared.words_kept.step.View.{View}
+use Rattle.slots.specs.declared.words_kept.step.SeatView.{SeatView}
 use Rattle.slots.specs.Directories as names
 use Rattle.slots.specs.Seats.{first_of}
 use Rattle.slots.specs.Keeping.{IsNamed, StandsIn}
@@ -33,5 +33,5 @@ first_stands = record {
   each = tt;
 }
 
-pub none_stand : (v : View) (vs rest others : List View) → vs ≡ rest ++ v ∷ [] → vs ≡ others ++ first_of 1 ∷ [] → StandsIn v [] 0
-none_stand v vs rest others last first = subst (λ (w : View). StandsIn w [] 0) (sym (same_from_push rest others v (first_of 1) (sym last ∙ first)).1) first_stands
+pub none_stand : (v : SeatView) (vs rest others : List SeatView) → vs ≡ rest ++ v ∷ [] → vs ≡ others ++ first_of 1 ∷ [] → StandsIn v [] 0
+none_stand v vs rest others last first = subst (λ (w : SeatView). StandsIn w [] 0) (sym (same_from_push rest others v (first_of 1) (sym last ∙ first)).1) first_stands

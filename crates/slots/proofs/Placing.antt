@@ -9,7 +9,7 @@ use Rattle.slots.specs.declared.by_name.directory.Directory.{Directory}
 use Rattle.slots.specs.declared.fault.SlotFault.{SlotFault}
 use Rattle.slots.specs.declared.fault.SlotFault.TheVariants as faults
 use Rattle.slots.specs.declared.words_kept.step.SlotKind.TheVariants.{Retire}
-use Rattle.slots.specs.declared.words_kept.step.View.{View}
+use Rattle.slots.specs.declared.words_kept.step.SeatView.{SeatView}
 use Rattle.slots.specs.Directories as names
 use Rattle.slots.specs.Facts.{Facts, facts, facts_after}
 use Rattle.slots.specs.Rule.{slot_step}
@@ -29,7 +29,7 @@ map_snoc : {A : Type 0} (f : Slot → A) (ss : List Slot) (s : Slot) → map f (
 map_snoc f [] s = refl
 map_snoc f (t ∷ ss) s = ap (λ l. f t ∷ l) (map_snoc f ss s)
 
-module _ (v w : View) (position p : ℕ) (d : Directory) (ss : List Slot) (places : ℕ) (named : IsNamed d ss places) (stands : StandsIn v ss places) (low : p < 16) (made : Created v position p w) where
+module _ (v w : SeatView) (position p : ℕ) (d : Directory) (ss : List Slot) (places : ℕ) (named : IsNamed d ss places) (stands : StandsIn v ss places) (low : p < 16) (made : Created v position p w) where
   next : p ≡ places
   next = is_next v w position p ss places stands low made
 
@@ -44,7 +44,7 @@ module _ (v w : View) (position p : ℕ) (d : Directory) (ss : List Slot) (place
   elsewhere = elsewhere_in ss named.listed
 
   -- the place is used up: it is a slot's, or was dropped
-  module _ (z : View) (g : Facts) (at_last : Changes v z p g) where
+  module _ (z : SeatView) (g : Facts) (at_last : Changes v z p g) where
     stands_with : (ts : List Slot) → ((q : ℕ) → Contains (places_in ss) q → Contains (places_in ts) q) → IsUsedUp z ts p → AllByRecursion (Stands z) ts → StandsIn z ts (places + 1)
     stands_with ts kept here all = record {
       alone = at_last.seats ∙ stands.alone;
@@ -82,7 +82,7 @@ module _ (v w : View) (position p : ℕ) (d : Directory) (ss : List Slot) (place
       (ap₂ (λ (q : ℕ) (b : Bool). record { name = s.name; place = q; confirmed = s.confirmed; is_held = b }) (is ∙ next) (ap (λ (q : ℕ). (facts q w.steps).held) is ∙ changes.here.held))
 
   -- the place was refused its name, and was dropped
-  module _ (z : View) where
+  module _ (z : SeatView) where
     abbrev pub IsDrop : Result (Unit {0}) SlotFault → Type 0
     IsDrop r = MatchResult r (λ _. Did Retire p 1 2 w z) (λ e. (x : ℕ) × IsRefusal e x × Did Retire p x x w z)
 
@@ -114,7 +114,7 @@ pub none_of : (o : Option ℕ) → is_some o ≡ false → o ≡ None
 none_of None is = refl
 none_of (Some n) is = absurd cc
 
-module _ (v : View) (d : Directory) (ss : List Slot) (places : ℕ) (name : List ℕ) (named : IsNamed d ss places) where
+module _ (v : SeatView) (d : Directory) (ss : List Slot) (places : ℕ) (name : List ℕ) (named : IsNamed d ss places) where
   pub exists : is_some (names.place_of d name) ≡ true → create_refusal name (slots_in_view v ss places) ≡ Some faults.Exists
   exists is = ap (λ (b : Bool). cond b (Option.Some faults.Exists) (cond (eqb places 16) (Option.Some faults.NoPlace) None)) (there_shown v d ss places name named ∙ is)
 

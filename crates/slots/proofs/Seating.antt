@@ -6,7 +6,7 @@ use mathlib.Core.Option.{some, some-ne-none, some-injective}
 use lib.ListN.{get_elem?}
 use Rattle.atomic_table.specs.Table.{Splits, opening}
 use Rattle.atomic_table.proofs.Lists.{at_set}
-use Rattle.slots.specs.declared.words_kept.step.View.{View}
+use Rattle.slots.specs.declared.words_kept.step.SeatView.{SeatView}
 use Rattle.slots.specs.Standings.{held_by}
 use Rattle.slots.specs.Facts.{facts, no_facts}
 use Rattle.slots.specs.Rule.{Agrees, Leaves, Kept, first_view, generation_of, one_more, newest, state_at, state_word, position_word}
@@ -14,7 +14,7 @@ use Rattle.slots.specs.Seats.{IsFresh}
 use Rattle.slots.proofs.Lines.{by_turn, no_more, not_yet, now}
 use Rattle.slots.proofs.Steps.{within}
 
-at_end : (l : List View) (a b : View) (j : ℕ) → get_elem? (l ++ a ∷ []) j ≡ some b → (get_elem? l j ≡ some b) ⊎ ((j ≡ length l) × (a ≡ b))
+at_end : (l : List SeatView) (a b : SeatView) (j : ℕ) → get_elem? (l ++ a ∷ []) j ≡ some b → (get_elem? l j ≡ some b) ⊎ ((j ≡ length l) × (a ≡ b))
 at_end [] a b zero e = inr (refl, some-injective a b e)
 at_end [] a b (suc j) e = absurd (some-ne-none b (sym e))
 at_end (x ∷ xs) a b zero e = inl e
@@ -57,31 +57,31 @@ never_made p w low is = now p w (omega (arith, low, is)) ∙ omega (arith, is)
 pub opens_wide : (n : ℕ) → n ≡ 8192 → Kept (opening (zeros n) [] first_view)
 opens_wide n wide = record {
   wide = zeros_are_many n ∙ wide;
-  numbered = λ k u is. let e = first_is k u is in (ap (λ (w : View). w.number) (sym e.1) ∙ sym e.0, λ _. ap (λ (w : View). w.seats) e.1);
+  numbered = λ k u is. let e = first_is k u is in (ap (λ (w : SeatView). w.number) (sym e.1) ∙ sym e.0, λ _. ap (λ (w : SeatView). w.seats) e.1);
   first = λ k u is _. (first_is k u is).0;
   few = omega arith;
   names = λ p. let z = zeros_are_zero n (state_word p) in omega (arith, z);
-  places = λ p k u is. subst (λ (w : View). Agrees (state_at p (slice_index (zeros n) (state_word p))) (slice_index (zeros n) (position_word p)) k (facts p w.steps)) (first_is k u is).1
+  places = λ p k u is. subst (λ (w : SeatView). Agrees (state_at p (slice_index (zeros n) (state_word p))) (slice_index (zeros n) (position_word p)) k (facts p w.steps)) (first_is k u is).1
       (knows_nothing _ _ k (unnamed p (slice_index (zeros n) (state_word p)) k (let z = zeros_are_zero n (state_word p) in omega (arith, z)) (let e = (first_is k u is).0 in omega (arith, e))));
-  alone = λ _ p k u low is. subst (λ (w : View). Leaves (zeros n) p w) (first_is k u is).1 (never_made p (slice_index (zeros n) (state_word p)) low (zeros_are_zero n (state_word p)), λ _. zeros_are_zero n (position_word p));
+  alone = λ _ p k u low is. subst (λ (w : SeatView). Leaves (zeros n) p w) (first_is k u is).1 (never_made p (slice_index (zeros n) (state_word p)) low (zeros_are_zero n (state_word p)), λ _. zeros_are_zero n (position_word p));
 }
   where
-    first_is : (k : ℕ) (u : View) → get_elem? (first_view ∷ []) k ≡ some u → (k ≡ 0) × (first_view ≡ u)
+    first_is : (k : ℕ) (u : SeatView) → get_elem? (first_view ∷ []) k ≡ some u → (k ≡ 0) × (first_view ≡ u)
     first_is zero u e = (refl, some-injective first_view u e)
     first_is (suc k) u e = absurd (some-ne-none u (sym e))
 
 pub opens : Kept (opening (zeros 8192) [] first_view)
 opens = opens_wide 8192 refl
 
-pub splits : (id : ℕ) (v : View) → 0 < v.seats → v.seats < 2048 → Splits Kept id v (one_more v) (newest v)
+pub splits : (id : ℕ) (v : SeatView) → 0 < v.seats → v.seats < 2048 → Splits Kept id v (one_more v) (newest v)
 splits id v some_seat few s kept at = record {
   wide = kept.wide;
   numbered = λ k u is. ⊎_elim
       (λ old. ⊎_elim
-      (λ t. (ap (λ (w : View). w.number) (sym t.1) ∙ (kept.numbered id v at).0 ∙ sym t.0, λ _. let l = longer in let c = count in let n : v.seats + 1 ≡ u.seats = ap (λ (w : View). w.seats) t.1 in omega arith))
+      (λ t. (ap (λ (w : SeatView). w.number) (sym t.1) ∙ (kept.numbered id v at).0 ∙ sym t.0, λ _. let l = longer in let c = count in let n : v.seats + 1 ≡ u.seats = ap (λ (w : SeatView). w.seats) t.1 in omega arith))
       (λ t. ((kept.numbered k u t.1).0, λ more. absurd (t.0 (kept.first k u t.1 more ∙ sym (kept.first id v at some_seat)))))
       (at_set s.views id k (one_more v) u old))
-      (λ t. (ap (λ (w : View). w.number) (sym t.1) ∙ sym count ∙ sym same ∙ sym t.0, λ more. absurd (none_there u t.1 more)))
+      (λ t. (ap (λ (w : SeatView). w.number) (sym t.1) ∙ sym count ∙ sym same ∙ sym t.0, λ more. absurd (none_there u t.1 more)))
       (at_end set_views (newest v) u k is);
   first = λ k u is more. ⊎_elim
       (λ old. ⊎_elim
@@ -94,17 +94,17 @@ splits id v some_seat few s kept at = record {
   names = λ p. let n = kept.names p in let l = longer in omega (arith, n, l);
   places = λ p k u is. ⊎_elim
       (λ old. ⊎_elim
-      (λ t. subst (λ (w : View). Agrees (state_at p (slice_index s.words (state_word p))) (slice_index s.words (position_word p)) k (facts p w.steps)) t.1
+      (λ t. subst (λ (w : SeatView). Agrees (state_at p (slice_index s.words (state_word p))) (slice_index s.words (position_word p)) k (facts p w.steps)) t.1
       (subst (λ (j : ℕ). Agrees (state_at p (slice_index s.words (state_word p))) (slice_index s.words (position_word p)) j (facts p v.steps)) (sym t.0) (kept.places p id v at)))
       (λ t. kept.places p k u t.1)
       (at_set s.views id k (one_more v) u old))
-      (λ t. subst (λ (w : View). Agrees (state_at p (slice_index s.words (state_word p))) (slice_index s.words (position_word p)) k (facts p w.steps)) t.1
+      (λ t. subst (λ (w : SeatView). Agrees (state_at p (slice_index s.words (state_word p))) (slice_index s.words (position_word p)) k (facts p w.steps)) t.1
       (knows_nothing _ _ k (unnamed p (slice_index s.words (state_word p)) k (let n = kept.names p in let is_last = t.0 in let l = same in omega (arith, n, is_last, l)) (let c = count in let is_last = t.0 in let l = same in omega (arith, c, is_last, l, few)))))
       (at_end set_views (newest v) u k is);
   alone = λ one. let l = longer in let m = within s.views id v at in absurd (omega arith);
 }
   where
-    set_views : List View
+    set_views : List SeatView
     set_views = set s.views id (one_more v)
 
     same : length set_views ≡ length s.views
@@ -116,11 +116,11 @@ splits id v some_seat few s kept at = record {
     longer : length (set_views ++ newest v ∷ []) ≡ suc (length s.views)
     longer = let l = length-append set_views (newest v ∷ []) in let e = same in omega arith
 
-    none_there : (u : View) → newest v ≡ u → 0 < u.seats → ⊥
-    none_there u e more = let n : u.seats ≡ 0 = ap (λ (w : View). w.seats) (sym e) in omega arith
+    none_there : (u : SeatView) → newest v ≡ u → 0 < u.seats → ⊥
+    none_there u e more = let n : u.seats ≡ 0 = ap (λ (w : SeatView). w.seats) (sym e) in omega arith
 
-pub newest_is_fresh : (seats n : ℕ) (v : View) → v ≡ newest (record { number = 0; seats = suc n; steps = [] }) → IsFresh seats v
+pub newest_is_fresh : (seats n : ℕ) (v : SeatView) → v ≡ newest (record { number = 0; seats = suc n; steps = [] }) → IsFresh seats v
 newest_is_fresh seats n v e = subst (IsFresh seats) (sym e) (refl, sym (ap (λ (b : Bool). cond b seats 0) (ne_eqb (suc n) 0 (λ h. omega arith))))
 
-pub first_is_fresh : (seats n : ℕ) (v : View) → n ≡ seats → v ≡ record { number = 0; seats = n; steps = [] } → IsFresh seats v
+pub first_is_fresh : (seats n : ℕ) (v : SeatView) → n ≡ seats → v ≡ record { number = 0; seats = n; steps = [] } → IsFresh seats v
 first_is_fresh seats n v is e = subst (IsFresh seats) (sym e) (refl, is)

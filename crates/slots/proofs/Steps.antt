@@ -9,7 +9,7 @@ use Rattle.std.proofs.lemmas.Bool.{eqb-true}
 use Rattle.slots.specs.declared.words_kept.step.SlotKind.{SlotKind}
 use Rattle.slots.specs.declared.words_kept.step.SlotKind.TheVariants.{Create, Claim, Read, Raise, Release, Retire}
 use Rattle.slots.specs.declared.words_kept.step.SlotStep.{SlotStep}
-use Rattle.slots.specs.declared.words_kept.step.View.{View}
+use Rattle.slots.specs.declared.words_kept.step.SeatView.{SeatView}
 use Rattle.slots.specs.Standings.{held_by}
 use Rattle.slots.specs.Facts.{Facts, facts, facts_after}
 use Rattle.slots.specs.Rule.{Agrees, HeldAt, Leaves, Kept, StandsAs, FollowsOn, generation_of, line_of, slot_step, state_at, steps_on, with_step, state_word, position_word, place_at, word_at, creates, claims, retires, releases, raises, reads}
@@ -22,7 +22,7 @@ either_cond : (b : Bool) (x y : ℕ) → either b x y ≡ cond b x y
 either_cond true x y = refl
 either_cond false x y = refl
 
-pub within : (l : List View) (i : ℕ) (v : View) → get_elem? l i ≡ some v → i < length l
+pub within : (l : List SeatView) (i : ℕ) (v : SeatView) → get_elem? l i ≡ some v → i < length l
 within [] i v e = absurd (some-ne-none v (sym e))
 within (x ∷ xs) zero v e = omega arith
 within (x ∷ xs) (suc i) v e = let n = within xs i v e in omega arith
@@ -34,7 +34,7 @@ absent p w k n low few not is = by_turn p w
     (λ more. let e = sym (no_more p w more) ∙ is in omega (arith, e))
     not
 
-module _ (s : St) (kept : Kept s) (id : ℕ) (v : View) (at : get_elem? s.views id ≡ some v) (p : ℕ) where
+module _ (s : St) (kept : Kept s) (id : ℕ) (v : SeatView) (at : get_elem? s.views id ≡ some v) (p : ℕ) where
   abbrev word : ℕ
   word = slice_index s.words (state_word p)
 
@@ -68,7 +68,7 @@ module _ (s : St) (kept : Kept s) (id : ℕ) (v : View) (at : get_elem? s.views 
   }
 
   -- another place of the line stands as it did, or its turn comes
-  may_come : (q k : ℕ) (u : View) → get_elem? s.views k ≡ some u → (new : ℕ) (g : Facts) → Agrees (state_at q word) y k g → Comes q word new → Agrees (state_at q new) y k g
+  may_come : (q k : ℕ) (u : SeatView) → get_elem? s.views k ≡ some u → (new : ℕ) (g : Facts) → Agrees (state_at q word) y k g → Comes q word new → Agrees (state_at q new) y k g
   may_come q k u found new g old how = ⊎_elim
       (λ same. subst (λ (n : ℕ). Agrees n y k g) (sym same) old)
       (λ comes. record {
@@ -89,7 +89,7 @@ module _ (s : St) (kept : Kept s) (id : ℕ) (v : View) (at : get_elem? s.views 
       (λ turn. let n = sym (now q word turn) ∙ e in let m = kept.names p in let few = kept.few in omega (arith, n, m, few))
 
   module _ (st : SlotStep) (here : st.place ≡ p) (c : List (ℕ × Unit {0})) where
-    state_step : (new left : ℕ) → state_at p new ≡ left → new % 4096 < 3 + length s.views → Agrees left y id (facts_after st f) → ((k : ℕ) (u : View) → k ≢ id → get_elem? s.views k ≡ some u → Agrees left y k (facts p u.steps))
+    state_step : (new left : ℕ) → state_at p new ≡ left → new % 4096 < 3 + length s.views → Agrees left y id (facts_after st f) → ((k : ℕ) (u : SeatView) → k ≢ id → get_elem? s.views k ≡ some u → Agrees left y k (facts p u.steps))
         → (facts_after st f).state ≡ left → (facts_after st f).position ≡ f.position
         → ((q : ℕ) → line_of q ≡ line_of p → q ≢ p → Comes q word new) → word / 4096 ≤ new / 4096
         → Kept (stepped s (state_word p) new id c (with_step v st) keeps)
@@ -109,7 +109,7 @@ module _ (s : St) (kept : Kept s) (id : ℕ) (v : View) (at : get_elem? s.views 
 
     -- where the place stands so it becomes that, and its line stays there or goes on
     takes_step : (n : ℕ) → n < 2 → (new left : ℕ) → state_at p new ≡ left → new % 4096 < 3 + length s.views → Follows p new
-        → Agrees (cond (eqb x n) left x) y id (facts_after st f) → ((k : ℕ) (u : View) → k ≢ id → get_elem? s.views k ≡ some u → Agrees (cond (eqb x n) left x) y k (facts p u.steps))
+        → Agrees (cond (eqb x n) left x) y id (facts_after st f) → ((k : ℕ) (u : SeatView) → k ≢ id → get_elem? s.views k ≡ some u → Agrees (cond (eqb x n) left x) y k (facts p u.steps))
         → (facts_after st f).state ≡ cond (eqb x n) left x → (facts_after st f).position ≡ f.position
         → Kept (stepped s (state_word p) (either (eqb word (word_at p n)) new word) id c (with_step v st) keeps)
     takes_step n low new left is small follows own others state position =
@@ -180,7 +180,7 @@ module _ (s : St) (kept : Kept s) (id : ℕ) (v : View) (at : get_elem? s.views 
           (λ q line ne. goes_on p q word (word_at p 1) turn line ne (inl (omega arith))) (omega (arith, t))
 
       -- a position that is no lower keeps what the other places of the line say
-      still_above : (new : ℕ) → y ≤ new → (q k : ℕ) (u : View) → line_of q ≡ line_of p → q ≢ p → get_elem? s.views k ≡ some u → Agrees (state_at q word) y k (facts q u.steps) → Agrees (state_at q word) new k (facts q u.steps)
+      still_above : (new : ℕ) → y ≤ new → (q k : ℕ) (u : SeatView) → line_of q ≡ line_of p → q ≢ p → get_elem? s.views k ≡ some u → Agrees (state_at q word) y k (facts q u.steps) → Agrees (state_at q word) new k (facts q u.steps)
       still_above new more q k u line ne found old = record {
         named = old.named;
         held = old.held;
@@ -190,7 +190,7 @@ module _ (s : St) (kept : Kept s) (id : ℕ) (v : View) (at : get_elem? s.views 
         rises = old.rises;
       }
 
-      position_step : (st : SlotStep) → st.place ≡ p → (new : ℕ) → y ≤ new → Agrees x new id (facts_after st f) → ((k : ℕ) (u : View) → k ≢ id → get_elem? s.views k ≡ some u → Agrees x new k (facts p u.steps))
+      position_step : (st : SlotStep) → st.place ≡ p → (new : ℕ) → y ≤ new → Agrees x new id (facts_after st f) → ((k : ℕ) (u : SeatView) → k ≢ id → get_elem? s.views k ≡ some u → Agrees x new k (facts p u.steps))
           → (facts_after st f).state ≡ f.state → (facts_after st f).position ≡ new → Kept (stepped s (position_word p) new id c (with_step v st) keeps)
       position_step st here new more own others state position = let wide = kept.wide in let g = facts_here p v.steps st here in
           moves s kept id v at p st here (set s.words (position_word p) new) (length-set s.words (position_word p) new ∙ kept.wide) word new
@@ -213,7 +213,7 @@ module _ (s : St) (kept : Kept s) (id : ℕ) (v : View) (at : get_elem? s.views 
       read : Kept (stepped s (position_word p) y id c (with_step v (slot_step Read p y y)) keeps)
       read = position_step (slot_step Read p y y) refl y (omega arith) (read_own f x y id agrees p) (λ k u ne found. kept.places p k u found) refl refl
 
-module _ (slots p id number : ℕ) (v : View) (c : List (ℕ × Unit {0})) (is : v.number ≡ number) where
+module _ (slots p id number : ℕ) (v : SeatView) (c : List (ℕ × Unit {0})) (is : v.number ≡ number) where
   -- the place of the step is that of the word, and it leaves what the word says
   told : (s : St) → Kept s → get_elem? s.views id ≡ some v → (kind : SlotKind) (want left : ℕ) → (q l : ℕ) → q ≡ p → l ≡ left
       → steps_on kind want l q (slice_index s.words (state_word p)) (v, c) (with_step v (slot_step kind p (state_at p (slice_index s.words (state_word p))) (cond (eqb (state_at p (slice_index s.words (state_word p))) want) left (state_at p (slice_index s.words (state_word p))))), c)

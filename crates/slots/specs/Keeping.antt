@@ -4,7 +4,7 @@ use Rattle.std.specs.List.{AllByRecursion, Contains}
 use Rattle.std.specs.Str.{bytes_eq}
 use Rattle.slots.specs.declared.by_name.directory.Directory.{Directory}
 use Rattle.slots.specs.declared.words_kept.standing.Standing.TheVariants.{Dropped}
-use Rattle.slots.specs.declared.words_kept.step.View.{View}
+use Rattle.slots.specs.declared.words_kept.step.SeatView.{SeatView}
 use Rattle.slots.specs.Directories as names
 use Rattle.slots.specs.Facts.{facts}
 use Rattle.slots.specs.Standings.{held_by, word_of}
@@ -12,10 +12,10 @@ use Rattle.slots.specs.declared.by_name.slot.Slot.{Slot}
 use Rattle.slots.specs.declared.table.TheConstants.{PLACES}
 use Rattle.slots.specs.State.{NamedSlot, SlotsState}
 
-abbrev pub shown_slot : View → Slot → NamedSlot
+abbrev pub shown_slot : SeatView → Slot → NamedSlot
 shown_slot v s = record { name = s.name; place = s.place; confirmed = s.confirmed; is_held = (facts s.place v.steps).held }
 
-abbrev pub slots_in_view : View → List Slot → ℕ → SlotsState
+abbrev pub slots_in_view : SeatView → List Slot → ℕ → SlotsState
 slots_in_view v slots places = record { slots = map (shown_slot v) slots; places = places }
 
 -- what is lent of a slot
@@ -38,18 +38,18 @@ pub record IsNamed (d : Directory) (slots : List Slot) (places : ℕ) : Type 0 w
   pub below : (name : List ℕ) (p : ℕ) → names.place_of d name ≡ Some p → p < places
 
 -- the seat left the slot's place held or free, and its position as it is noted
-abbrev pub Stands : View → Slot → Type 0
+abbrev pub Stands : SeatView → Slot → Type 0
 Stands v s = (s.confirmed ≡ (facts s.place v.steps).position) × ((facts s.place v.steps).state ≡ cond (facts s.place v.steps).held (held_by v.number) 1)
 
 abbrev pub places_in : List Slot → List ℕ
 places_in slots = map (λ (s : Slot). s.place) slots
 
 -- a place that is used up is a slot's, or was dropped
-abbrev pub IsUsedUp : View → List Slot → ℕ → Type 0
+abbrev pub IsUsedUp : SeatView → List Slot → ℕ → Type 0
 IsUsedUp v slots place = Contains (places_in slots) place ⊎ ((facts place v.steps).state ≡ word_of Dropped)
 
 -- What the only seat of a table has left: the places were made one after the other, and each slot stands at one of them.
-pub record StandsIn (v : View) (slots : List Slot) (places : ℕ) : Type 0 where
+pub record StandsIn (v : SeatView) (slots : List Slot) (places : ℕ) : Type 0 where
   pub alone : v.seats ≡ 1
   pub few : places ≤ PLACES
   pub used : (p : ℕ) → p < places → IsUsedUp v slots p

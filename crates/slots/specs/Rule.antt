@@ -6,7 +6,7 @@ use Rattle.atomic_table.specs.Table.{State, Me, Step}
 use Rattle.slots.specs.declared.words_kept.step.SlotKind.{SlotKind}
 use Rattle.slots.specs.declared.words_kept.step.SlotKind.TheVariants.{Create, Claim, Read, Raise, Release, Retire}
 use Rattle.slots.specs.declared.words_kept.step.SlotStep.{SlotStep}
-use Rattle.slots.specs.declared.words_kept.step.View.{View}
+use Rattle.slots.specs.declared.words_kept.step.SeatView.{SeatView}
 use Rattle.slots.specs.Standings.{held_by}
 use Rattle.slots.specs.Facts.{Facts, facts}
 
@@ -55,43 +55,43 @@ pub record Agrees (state position seat : ℕ) (f : Facts) : Type 0 where
   pub rises : f.rising ≡ true
 
 -- a place of the first generation stands as the last steps of this seat left it, and so does its position until it is dropped
-abbrev pub Leaves : List ℕ → ℕ → View → Type 0
+abbrev pub Leaves : List ℕ → ℕ → SeatView → Type 0
 Leaves words p v =
     (state_at p (slice_index words (state_word p)) ≡ (facts p v.steps).state)
     × (slice_index words (state_word p) / 4096 ≡ 0 → slice_index words (position_word p) ≡ (facts p v.steps).position)
 
 abbrev pub Slots : Type 0
-Slots = State (Unit {0}) View
+Slots = State (Unit {0}) SeatView
 
 abbrev Seated : Type 0
-Seated = Me (Unit {0}) View
+Seated = Me (Unit {0}) SeatView
 
 -- The rule of slots, which each step of each seat keeps.
 pub record Kept (s : Slots) : Type 0 where
   -- eight words for each of 1,024 lines
   pub wide : length s.words ≡ 8192
   -- a seat knows its number, and one that may make more knows how many there are
-  pub numbered : (seat : ℕ) (v : View) → get_elem? s.views seat ≡ some v → (v.number ≡ seat) × (0 < v.seats → length s.views ≡ v.seats)
+  pub numbered : (seat : ℕ) (v : SeatView) → get_elem? s.views seat ≡ some v → (v.number ≡ seat) × (0 < v.seats → length s.views ≡ v.seats)
   -- that is the first seat alone
-  pub first : (seat : ℕ) (v : View) → get_elem? s.views seat ≡ some v → 0 < v.seats → seat ≡ 0
+  pub first : (seat : ℕ) (v : SeatView) → get_elem? s.views seat ≡ some v → 0 < v.seats → seat ≡ 0
   -- each seat has a number that a state word can hold
   pub few : length s.views ≤ 2048
   -- a state word names no seat that there isn't
   pub names : (p : ℕ) → slice_index s.words (state_word p) % 4096 < 3 + length s.views
   -- how each place stands agrees with the steps of each seat
-  pub places : (p seat : ℕ) (v : View) → get_elem? s.views seat ≡ some v → Agrees (state_at p (slice_index s.words (state_word p))) (slice_index s.words (position_word p)) seat (facts p v.steps)
+  pub places : (p seat : ℕ) (v : SeatView) → get_elem? s.views seat ≡ some v → Agrees (state_at p (slice_index s.words (state_word p))) (slice_index s.words (position_word p)) seat (facts p v.steps)
   -- where there is one seat, places of the first generation stand as its last steps left them
-  pub alone : length s.views ≡ 1 → (p seat : ℕ) (v : View) → p < 1024 → get_elem? s.views seat ≡ some v → Leaves s.words p v
+  pub alone : length s.views ≡ 1 → (p seat : ℕ) (v : SeatView) → p < 1024 → get_elem? s.views seat ≡ some v → Leaves s.words p v
 
 abbrev pub slot_step : SlotKind → ℕ → ℕ → ℕ → SlotStep
 slot_step kind place found left = record { kind = kind; place = place; found = found; left = left }
 
 -- the view with one more step
-abbrev pub with_step : View → SlotStep → View
+abbrev pub with_step : SeatView → SlotStep → SeatView
 with_step v s = record { number = v.number; seats = v.seats; steps = v.steps ++ s ∷ [] }
 
 -- What a seat knows of how it finds a place.
-pub record StandsAs (v : View) (p found : ℕ) : Type 0 where
+pub record StandsAs (v : SeatView) (p found : ℕ) : Type 0 where
   -- its own number, if and only if it holds the place by its steps
   pub named : (facts p v.steps).held ≡ true → found ≡ held_by v.number
   pub held : found ≡ held_by v.number → (facts p v.steps).held ≡ true
@@ -101,7 +101,7 @@ pub record StandsAs (v : View) (p found : ℕ) : Type 0 where
   pub alone : v.seats ≡ 1 → p < 1024 → found ≡ (facts p v.steps).state
 
 -- What a seat knows of a position that it finds at a place that it holds.
-pub record FollowsOn (v : View) (p found : ℕ) : Type 0 where
+pub record FollowsOn (v : SeatView) (p found : ℕ) : Type 0 where
   -- it is no lower than any that it saw
   pub above : (facts p v.steps).top ≤ found
   -- of a place that it holds, it is the one that it last saw since it took the place
@@ -143,11 +143,11 @@ abbrev pub reads : Step (Unit {0}) → Seated → ℕ → Seated → Type 0
 reads st m found m' = (p : ℕ) → HeldAt st.word m p → steps_by m (slot_step Read p found found) m' × FollowsOn m.0 p found
 
 -- the view of the first seat, before another is made; then it knows of one more; and the view of that one
-abbrev pub first_view : View
+abbrev pub first_view : SeatView
 first_view = record { number = 0; seats = 1; steps = [] }
 
-abbrev pub one_more : View → View
+abbrev pub one_more : SeatView → SeatView
 one_more v = record { number = v.number; seats = v.seats + 1; steps = v.steps }
 
-abbrev pub newest : View → View
+abbrev pub newest : SeatView → SeatView
 newest v = record { number = v.seats; seats = 0; steps = [] }

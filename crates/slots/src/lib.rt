@@ -33,4 +33,4 @@ pub use words_kept::slot_word::{
     confirm, is_held, is_missing, let_go, slot_named, start_from, take,
 };
 pub use words_kept::standing::Standing;
-pub use words_kept::step::{SlotKind, SlotStep, View};
+pub use words_kept::step::{SeatView, SlotKind, SlotStep};

@@ -3,13 +3,13 @@
 ghost use Rattle.std.specs.Prelude.{◌≡◌, ◌<◌, ◌≤◌, ◌++◌, ◌∷◌, All, IfOk, List, [], vec_len};
 ghost use Rattle.slots.specs.Rule.{first_view};
 ghost use Rattle.slots.specs.Seats.{IsFresh, first_of};
-ghost use Rattle.slots.specs.declared.words_kept.step.View.{View};
+ghost use Rattle.slots.specs.declared.words_kept.step.SeatView.{SeatView};
 ghost use Rattle.slots.specs.declared.table.TheConstants.{MOST_SEATS};
 
-use crate::rule::{Law, Seats, SlotName};
+use crate::rule::{Seats, SlotName, SlotTableLaw};
 use crate::seat::SlotSeat;
 use crate::table::SlotTable;
-use crate::words_kept::step::View;
+use crate::words_kept::step::SeatView;
 use crate::words_kept::words::WORDS;
 use atomic_table::{Seat, Table};
 use std::alloc::{AllocError, Global};
@@ -19,8 +19,8 @@ use std::marker::PhantomData;
 #[derive(Drop)]
 pub struct OpenedSlots {
     alloc: Global,
-    table: Table<(), View, (), Law, Global>,
-    pub first: Seat<(), View>,
+    table: Table<(), SeatView, (), SlotTableLaw, Global>,
+    pub first: Seat<(), SeatView>,
     ghost same: { first.table_id ≡ table.shared.table_id },
     ghost wide: { table.shared.table_id.words ≡ 8192 },
     ghost fresh: { first.me ≡ (first_view, []) },
@@ -47,7 +47,7 @@ impl OpenedSlots {
         requires few { seats ≤ MOST_SEATS }
         ensures { IfOk result
             (λ made. (vec_len made.1 ≡ seats) × All (IsFresh seats) made.1.items
-            × ((others : List View) × (made.1.items ≡ others ++ first_of seats ∷ []))) }
+            × ((others : List SeatView) × (made.1.items ≡ others ++ first_of seats ∷ []))) }
     {
         let OpenedSlots {
             alloc,

@@ -3,7 +3,7 @@
 ghost use Rattle.slots.specs.Rule.{Kept, Slots};
 ghost use Rattle.slots.specs.Seats.{HasOneHolder};
 
-use crate::words_kept::step::View;
+use crate::words_kept::step::SeatView;
 use atomic_table::{Play, Split, TableRule};
 use std::marker::Brand;
 
@@ -29,9 +29,9 @@ impl SlotName for Brand {
 }
 
 /// The rule between any two steps (`Kept`).
-pub struct Law;
+pub struct SlotTableLaw;
 
-impl TableRule<(), View, ()> for Law {
+impl TableRule<(), SeatView, ()> for SlotTableLaw {
     ghost use Rattle.slots.specs.Rule.{first_view};
 
     ghost holds = { λ _ s. Kept s };
@@ -46,7 +46,7 @@ pub fn no_slot_has_two_holders()
 
 pub struct Creates;
 
-impl Play<(), View> for Creates {
+impl Play<(), SeatView> for Creates {
     ghost use Rattle.slots.specs.Rule.{creates};
 
     ghost then = { creates };
@@ -54,7 +54,7 @@ impl Play<(), View> for Creates {
 
 pub struct Claims;
 
-impl Play<(), View> for Claims {
+impl Play<(), SeatView> for Claims {
     ghost use Rattle.slots.specs.Rule.{claims};
 
     ghost then = { claims };
@@ -62,7 +62,7 @@ impl Play<(), View> for Claims {
 
 pub struct Reads;
 
-impl Play<(), View> for Reads {
+impl Play<(), SeatView> for Reads {
     ghost use Rattle.slots.specs.Rule.{reads};
 
     ghost then = { reads };
@@ -70,7 +70,7 @@ impl Play<(), View> for Reads {
 
 pub struct Raises;
 
-impl Play<(), View> for Raises {
+impl Play<(), SeatView> for Raises {
     ghost use Rattle.slots.specs.Rule.{raises};
 
     ghost then = { raises };
@@ -78,7 +78,7 @@ impl Play<(), View> for Raises {
 
 pub struct Releases;
 
-impl Play<(), View> for Releases {
+impl Play<(), SeatView> for Releases {
     ghost use Rattle.slots.specs.Rule.{releases};
 
     ghost then = { releases };
@@ -86,7 +86,7 @@ impl Play<(), View> for Releases {
 
 pub struct Retires;
 
-impl Play<(), View> for Retires {
+impl Play<(), SeatView> for Retires {
     ghost use Rattle.slots.specs.Rule.{retires};
 
     ghost then = { retires };
@@ -95,7 +95,7 @@ impl Play<(), View> for Retires {
 /// A seat more, which the first seat counts.
 pub struct Seats;
 
-impl Split<View> for Seats {
+impl Split<SeatView> for Seats {
     ghost use Rattle.slots.specs.Rule.{newest, one_more};
 
     ghost left = { one_more };

@@ -1,7 +1,7 @@
 //! A seat at a table of slots.
 
 use crate::rule::SlotName;
-use crate::words_kept::step::View;
+use crate::words_kept::step::SeatView;
 use atomic_table::Seat;
 use std::marker::{Model, PhantomData};
 
@@ -9,15 +9,15 @@ use std::marker::{Model, PhantomData};
 #[derive(Drop)]
 pub struct SlotSeat<L: SlotName> {
     pub(crate) number: u64,
-    pub(crate) seat: Seat<(), View>,
+    pub(crate) seat: Seat<(), SeatView>,
     pub(crate) of: PhantomData<L>,
 }
 
 impl<L: SlotName> Model for SlotSeat<L> {
     ghost use Rattle.std.specs.Prelude.{◌≡◌, ◌<◌, []};
-    ghost use Rattle.slots.specs.declared.words_kept.step.View.{View};
+    ghost use Rattle.slots.specs.declared.words_kept.step.SeatView.{SeatView};
 
-    ghost Value = { View };
+    ghost Value = { SeatView };
 
     ghost view = { λ s. s.seat.me.0 };
 

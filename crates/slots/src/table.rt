@@ -10,10 +10,10 @@ ghost use Rattle.slots.specs.declared.words_kept.step.SlotKind.TheVariants.{Clai
 
 use crate::fault::SlotFault;
 use crate::lease::Lease;
-use crate::rule::{Claims, Creates, Law, Raises, Reads, Releases, Retires, SlotName};
+use crate::rule::{Claims, Creates, Raises, Reads, Releases, Retires, SlotName, SlotTableLaw};
 use crate::seat::SlotSeat;
 use crate::words_kept::standing::Standing;
-use crate::words_kept::step::View;
+use crate::words_kept::step::SeatView;
 use crate::words_kept::words::{position_word, state_at, state_word, word_at, word_past};
 use atomic_table::Table;
 use std::alloc::Global;
@@ -37,7 +37,7 @@ pub const MOST_SEATS: usize = 2048;
 /// another place, `LINES` further.
 #[derive(Drop)]
 pub struct SlotTable<L: SlotName> {
-    pub(crate) table: Table<(), View, (), Law, Global>,
+    pub(crate) table: Table<(), SeatView, (), SlotTableLaw, Global>,
     pub(crate) of: PhantomData<L>,
     ghost named: { table.shared.table_id ≡ L.table },
     ghost wide: { table.shared.table_id.words ≡ 8192 },

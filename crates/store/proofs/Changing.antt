@@ -13,7 +13,7 @@ use Rattle.store.specs.declared.places.key.TheConstants.{MAX_KEY_LENGTH}
 use Rattle.tables.specs.declared.rows.row.TheConstants.{MAX_ROW_LENGTH}
 use Rattle.store.specs.declared.store_fault.StoreFault.{StoreFault}
 use Rattle.store.specs.declared.store_fault.StoreFault.TheVariants as faults
-use Rattle.store.specs.declared.places.slot.Slot.{Slot}
+use Rattle.store.specs.declared.places.stored_place.StoredPlace.{StoredPlace}
 use Rattle.tables.specs.declared.kinds.Value.{Value}
 use Rattle.tables.specs.declared.table.Table.{Table}
 use Rattle.tables.specs.declared.changes.change.Change.{Change}
@@ -139,7 +139,7 @@ pub record Found (s : StoreState) (key : Key) (old : List Value) : Type 0 where
 
 pub found_row : (s : StoreState) (h : List Made) (key : Key) (old : List Value) → key.oid < 2 ^ 32 → Keeps s h → row_at s key ≡ Some old → Found s key old
 found_row s h key old small keeps is =
-    let home : IsHome s.tables (key_text key) old = stands_home s.tables h (key_text key) old keeps.fits (ap (λ (t : Slot). t.row) (sym (keeps.stands (key_text key))) ∙ is) in
+    let home : IsHome s.tables (key_text key) old = stands_home s.tables h (key_text key) old keeps.fits (ap (λ (t : StoredPlace). t.row) (sym (keeps.stands (key_text key))) ∙ is) in
     let same : key.oid ≡ home.oid =
     same_oid key.oid home.oid small home.fits.number (sym (front_of_key key) ∙ ap (take 4) home.place ∙ front_of_row s.tables home.oid old) in
     record { fits = subst (λ (o : ℕ). FitsRow s.tables o old) (sym same) home.fits; place = home.place ∙ ap (λ (o : ℕ). row_place s.tables o old) (sym same) }
@@ -240,11 +240,11 @@ pub long_fault : (s : StoreState) (top : ℕ) (key : Key) → slot_at s.slots (k
     IsRefusal (unless (key_held s top key) faults.KeyHeld (unless (not (is_some (row_at s key))) faults.NoSuchRow None)) (cond (is_other top (slot_at s.slots (table_place key.oid)).owner) faults.KeyHeld faults.NoSuchRow)
 long_fault s top key empty = by_test (is_other top (slot_at s.slots (table_place key.oid)).owner) (slot_at s.slots (key_text key)) empty
   where
-    by_test : (a : Bool) (t : Slot) → t ≡ vacant →
+    by_test : (a : Bool) (t : StoredPlace) → t ≡ vacant →
         IsRefusal (unless (a || is_other top t.owner) faults.KeyHeld (unless (not (is_some t.row)) faults.NoSuchRow None)) (cond a faults.KeyHeld faults.NoSuchRow)
     by_test true t gone = refl
     by_test false t gone =
-        let P : Slot → Type 0 = λ x. IsRefusal (unless (is_other top x.owner) faults.KeyHeld (unless (not (is_some x.row)) faults.NoSuchRow None)) faults.NoSuchRow in
+        let P : StoredPlace → Type 0 = λ x. IsRefusal (unless (is_other top x.owner) faults.KeyHeld (unless (not (is_some x.row)) faults.NoSuchRow None)) faults.NoSuchRow in
         subst P (sym gone) refl
 
 pub update_there : (tables : List Table) (key : Key) (row : List Value) (held taken : Bool) (old : Option (List Value)) → update_fault tables key row held (is_some old) taken ≡ None → IsTrue (is_some old)
@@ -264,7 +264,7 @@ keys_left s top key from to r at free free_to h =
 pub keys_long : (s : StoreState) (top : ℕ) (key : Key) (to : List ℕ) → slot_at s.slots (key_text key) ≡ vacant →
     (is_other top (slot_at s.slots (table_place key.oid)).owner || is_other top (slot_at s.slots to).owner) ≡ false → keys_fault s top key to ≡ Some faults.NoSuchRow
 keys_long s top key to empty free =
-    ap (λ (t : Slot). unless ((is_other top (slot_at s.slots (table_place key.oid)).owner || is_other top t.owner) || (is_other top (slot_at s.slots (table_place key.oid)).owner || is_other top (slot_at s.slots to).owner)) faults.KeyHeld
+    ap (λ (t : StoredPlace). unless ((is_other top (slot_at s.slots (table_place key.oid)).owner || is_other top t.owner) || (is_other top (slot_at s.slots (table_place key.oid)).owner || is_other top (slot_at s.slots to).owner)) faults.KeyHeld
     (unless (not (is_some t.row)) faults.NoSuchRow (unless (not (same_key (key_text key) to) && is_some (slot_at s.slots to).row) faults.DuplicateKey None))) empty
     ∙ ap (λ (a : Bool). unless ((a || false) || (is_other top (slot_at s.slots (table_place key.oid)).owner || is_other top (slot_at s.slots to).owner)) faults.KeyHeld (Some faults.NoSuchRow))
     (or_left (is_other top (slot_at s.slots (table_place key.oid)).owner) (is_other top (slot_at s.slots to).owner) free)

@@ -2,8 +2,8 @@
 use Rattle.std.proofs.Common.{◌≡◌, ℕ, Bool, true, false, cond, ◌||◌, List, [], ◌∷◌, Some, None, refl, sym, ap, subst, ◌∙◌}
 use Rattle.std.specs.Prelude.{Option, is_some}
 use Rattle.std.specs.List.{AllByRecursion}
-use Rattle.store.specs.declared.places.slot.Slot.{Slot}
-use Rattle.store.specs.declared.places.slot.Undo.{Undo}
+use Rattle.store.specs.declared.places.stored_place.StoredPlace.{StoredPlace}
+use Rattle.store.specs.declared.places.stored_place.Undo.{Undo}
 use Rattle.tables.specs.declared.table.Table.{Table}
 use Rattle.tables.specs.declared.changes.change.Change.{Change}
 use Rattle.tables.specs.declared.changes.change.Change.TheVariants as changes
@@ -15,7 +15,7 @@ use Rattle.store.proofs.Histories.{or_left, or_right, top_self, top_is, undo_agr
 use Rattle.store.proofs.Holding.{owner_by, takes, takes_touch}
 
 abbrev Slots : Type 0
-Slots = List ℕ → Slot
+Slots = List ℕ → StoredPlace
 
 abbrev after : List Table → Made → Slots → Slots
 after tables m b = λ k. slot_by tables m k (b k)
@@ -34,31 +34,31 @@ longer_gone top o = by_test (is_top top o) refl
 
 -- SLOTS
 
-freed_if : (top : ℕ) (a : Bool) (s t : Slot) → cond a (slot_after_end top s) (slot_after_end top t) ≡ slot_after_end top (cond a s t)
+freed_if : (top : ℕ) (a : Bool) (s t : StoredPlace) → cond a (slot_after_end top s) (slot_after_end top t) ≡ slot_after_end top (cond a s t)
 freed_if top true s t = refl
 freed_if top false s t = refl
 
-put_freed : (top : ℕ) (owner : Option ℕ) (ps : List Put) (k : List ℕ) (s : Slot) → put_at (owner_after_end top owner) ps k (slot_after_end top s) ≡ slot_after_end top (put_at owner ps k s)
+put_freed : (top : ℕ) (owner : Option ℕ) (ps : List Put) (k : List ℕ) (s : StoredPlace) → put_at (owner_after_end top owner) ps k (slot_after_end top s) ≡ slot_after_end top (put_at owner ps k s)
 put_freed top owner [] k s = refl
 put_freed top owner (p ∷ ps) k s =
     ap (put_at (owner_after_end top owner) ps k) (freed_if top (same_key k p.0) (record { row = p.1; owner = owner }) s)
     ∙ put_freed top owner ps k (cond (same_key k p.0) (record { row = p.1; owner = owner }) s)
 
-emptied_freed : (top : ℕ) (owner : Option ℕ) (change : Change) (k : List ℕ) (s : Slot) →
+emptied_freed : (top : ℕ) (owner : Option ℕ) (change : Change) (k : List ℕ) (s : StoredPlace) →
     slot_after_emptying (owner_after_end top owner) change k (slot_after_end top s) ≡ slot_after_end top (slot_after_emptying owner change k s)
 emptied_freed top owner (changes.Insert oid row) k s = refl
 emptied_freed top owner (changes.Update oid old row) k s = refl
 emptied_freed top owner (changes.Delete oid old) k s = refl
 emptied_freed top owner (changes.Message message) k s = refl
 emptied_freed top owner (changes.Truncate oids) k s =
-    ap (λ (t : Slot). cond (is_within oids k) t (slot_after_end top s)) (freed_if top (is_some s.row) (record { row = None; owner = owner }) s)
+    ap (λ (t : StoredPlace). cond (is_within oids k) t (slot_after_end top s)) (freed_if top (is_some s.row) (record { row = None; owner = owner }) s)
     ∙ freed_if top (is_within oids k) (emptied_slot owner s) s
 
-by_freed : (tables : List Table) (top : ℕ) (m : Made) (k : List ℕ) (s : Slot) → slot_by tables (change_after_end top m) k (slot_after_end top s) ≡ slot_after_end top (slot_by tables m k s)
+by_freed : (tables : List Table) (top : ℕ) (m : Made) (k : List ℕ) (s : StoredPlace) → slot_by tables (change_after_end top m) k (slot_after_end top s) ≡ slot_after_end top (slot_by tables m k s)
 by_freed tables top m k s =
     ap (put_at (owner_after_end top m.top) (puts_of tables m.change) k) (emptied_freed top m.top m.change k s) ∙ put_freed top m.top (puts_of tables m.change) k (slot_after_emptying m.top m.change k s)
 
-pub from_freed : (tables : List Table) (top : ℕ) (ms : List Made) (k : List ℕ) (s : Slot) → slot_from tables (history_after_end top ms) k (slot_after_end top s) ≡ slot_after_end top (slot_from tables ms k s)
+pub from_freed : (tables : List Table) (top : ℕ) (ms : List Made) (k : List ℕ) (s : StoredPlace) → slot_from tables (history_after_end top ms) k (slot_after_end top s) ≡ slot_after_end top (slot_from tables ms k s)
 from_freed tables top [] k s = refl
 from_freed tables top (m ∷ ms) k s = ap (slot_from tables (history_after_end top ms) k) (by_freed tables top m k s) ∙ from_freed tables top ms k (slot_by tables m k s)
 
@@ -92,8 +92,8 @@ all_two : {A : Type 0} (P Q R : A → Type 0) (xs : List A) → ((x : A) → P x
 all_two P Q R [] f ps qs = tt
 all_two P Q R (x ∷ xs) f ps qs = (f x ps.0 qs.0, all_two P Q R xs f ps.1 qs.1)
 
-freed_same : (top : ℕ) (s : Slot) → is_top top s.owner ≡ false → slot_after_end top s ≡ s
-freed_same top s off = ap (λ (o : Option ℕ). let t : Slot = record { row = s.row; owner = o } in t) (longer_still top s.owner off)
+freed_same : (top : ℕ) (s : StoredPlace) → is_top top s.owner ≡ false → slot_after_end top s ≡ s
+freed_same top s off = ap (λ (o : Option ℕ). let t : StoredPlace = record { row = s.row; owner = o } in t) (longer_still top s.owner off)
 
 pub notes_forgotten : (tables : List Table) (top u : ℕ) (ms : List Made) (b c : Slots) (gs : List (List Undo)) → Differ u top → AreApart tables ms → ((k : List ℕ) → c k ≡ slot_after_end top (b k)) →
     Unowned tables top u ms b → AreNotes tables u ms b gs → AreNotes tables u (history_after_end top ms) c gs
@@ -164,7 +164,7 @@ fits_forgotten tables top (m ∷ ms) all = (all.0, fits_forgotten tables top ms 
 
 -- WHAT A JOURNAL NOTES
 
-undone_away : (us : List Undo) (k : List ℕ) (s : Slot) → is_noted k us ≡ false → undone_at us k s ≡ s
+undone_away : (us : List Undo) (k : List ℕ) (s : StoredPlace) → is_noted k us ≡ false → undone_at us k s ≡ s
 undone_away [] k s off = refl
 undone_away (u ∷ us) k s off = by_test (same_key k u.key) off (undone_away us k s)
   where
@@ -189,7 +189,7 @@ owned_noted tables top (m ∷ ms) b gs k h away off = by_own (is_top top m.top) 
     by_own true own [] h away rest = absurd h
     by_own true own (g ∷ hs) h away rest =
         let same : slot_by tables m k (b k) ≡ b k = sym (undone_away g k (slot_by tables m k (b k)) (or_left (is_noted k g) (is_in_journal k hs) away)) ∙ h.0.restores k in
-        rest hs h.1 (or_right (is_noted k g) (is_in_journal k hs) away) (ap (λ (s : Slot). is_top top s.owner) same ∙ off)
+        rest hs h.1 (or_right (is_noted k g) (is_in_journal k hs) away) (ap (λ (s : StoredPlace). is_top top s.owner) same ∙ off)
 
 -- freeing the places of a journal frees all that are the transaction's
 pub freed_noted : (tables : List Table) (top : ℕ) (ms : List Made) (gs : List (List Undo)) (k : List ℕ) → AreNotes tables top ms (λ j. vacant) gs →

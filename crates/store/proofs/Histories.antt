@@ -3,8 +3,8 @@ use Rattle.std.proofs.Common.{◌≡◌, ℕ, zero, suc, ◌≤◌, Bool, true, 
 use Rattle.std.proofs.lemmas.Bool.{eqb-true}
 use Rattle.std.specs.Prelude.{Option}
 use Rattle.std.specs.List.{AllByRecursion}
-use Rattle.store.specs.declared.places.slot.Slot.{Slot}
-use Rattle.store.specs.declared.places.slot.Undo.{Undo}
+use Rattle.store.specs.declared.places.stored_place.StoredPlace.{StoredPlace}
+use Rattle.store.specs.declared.places.stored_place.Undo.{Undo}
 use Rattle.tables.specs.declared.table.Table.{Table}
 use Rattle.tables.specs.declared.changes.change.Change.{Change}
 use Rattle.tables.specs.declared.changes.change.Change.TheVariants as changes
@@ -14,7 +14,7 @@ use Rattle.store.specs.Keeping.{Put, put_at, is_put, puts_of, slot_after_emptyin
 use Rattle.store.proofs.Undoing.{keys_same, can_on}
 
 abbrev Slots : Type 0
-Slots = List ℕ → Slot
+Slots = List ℕ → StoredPlace
 
 -- LISTS
 
@@ -45,7 +45,7 @@ top_is top (Some x) own = ap (λ (n : ℕ). Some n) (eqb-true x top own)
 
 -- A SLOT AND ONE CHANGE
 
-pub put_off : (top : Option ℕ) (ps : List Put) (k : List ℕ) (s : Slot) → is_put k ps ≡ false → put_at top ps k s ≡ s
+pub put_off : (top : Option ℕ) (ps : List Put) (k : List ℕ) (s : StoredPlace) → is_put k ps ≡ false → put_at top ps k s ≡ s
 put_off top [] k s off = refl
 put_off top (p ∷ ps) k s off = by_test (same_key k p.0) off (put_off top ps k s)
   where
@@ -53,19 +53,19 @@ put_off top (p ∷ ps) k s off = by_test (same_key k p.0) off (put_off top ps k 
     by_test true off rest = absurd cc
     by_test false off rest = rest off
 
-pub emptied_off : (top : Option ℕ) (change : Change) (k : List ℕ) (s : Slot) → is_emptied change k ≡ false → slot_after_emptying top change k s ≡ s
+pub emptied_off : (top : Option ℕ) (change : Change) (k : List ℕ) (s : StoredPlace) → is_emptied change k ≡ false → slot_after_emptying top change k s ≡ s
 emptied_off top (changes.Truncate oids) k s off = rw off refl
 emptied_off top (changes.Insert oid row) k s off = refl
 emptied_off top (changes.Update oid old row) k s off = refl
 emptied_off top (changes.Delete oid old) k s off = refl
 emptied_off top (changes.Message message) k s off = refl
 
-pub off_touch : (tables : List Table) (m : Made) (k : List ℕ) (s : Slot) → touches tables m.change k ≡ false → slot_by tables m k s ≡ s
+pub off_touch : (tables : List Table) (m : Made) (k : List ℕ) (s : StoredPlace) → touches tables m.change k ≡ false → slot_by tables m k s ≡ s
 off_touch tables m k s off =
     ap (put_at m.top (puts_of tables m.change) k) (emptied_off m.top m.change k s (or_right (is_put k (puts_of tables m.change)) (is_emptied m.change k) off))
     ∙ put_off m.top (puts_of tables m.change) k s (or_left (is_put k (puts_of tables m.change)) (is_emptied m.change k) off)
 
-pub undone_off : (tables : List Table) (change : Change) (us : List Undo) (k : List ℕ) (s : Slot) → AllByRecursion (λ u. touches tables change u.key ≡ true) us → touches tables change k ≡ false →
+pub undone_off : (tables : List Table) (change : Change) (us : List Undo) (k : List ℕ) (s : StoredPlace) → AllByRecursion (λ u. touches tables change u.key ≡ true) us → touches tables change k ≡ false →
     undone_at us k s ≡ s
 undone_off tables change [] k s all off = refl
 undone_off tables change (u ∷ us) k s all off = by_test (same_key k u.key) (keys_same k u.key) (undone_off tables change us k s all.1 off)
@@ -76,7 +76,7 @@ undone_off tables change (u ∷ us) k s all off = by_test (same_key k u.key) (ke
         absurd cc
     by_test false same rest = rest
 
-pub slot_more : (tables : List Table) (ms : List Made) (m : Made) (k : List ℕ) (s : Slot) → slot_from tables (ms ++ m ∷ []) k s ≡ slot_by tables m k (slot_from tables ms k s)
+pub slot_more : (tables : List Table) (ms : List Made) (m : Made) (k : List ℕ) (s : StoredPlace) → slot_from tables (ms ++ m ∷ []) k s ≡ slot_by tables m k (slot_from tables ms k s)
 slot_more tables [] m k s = refl
 slot_more tables (x ∷ ms) m k s = slot_more tables ms m k (slot_by tables x k s)
 
@@ -94,7 +94,7 @@ undo_agrees tables m b c us same h = record {
 }
   where
     by_test : (k : List ℕ) (a : Bool) → touches tables m.change k ≡ a → undone_at us k (slot_by tables m k (c k)) ≡ c k
-    by_test k true on = subst (λ (s : Slot). undone_at us k (slot_by tables m k s) ≡ s) (same k on) (h.restores k)
+    by_test k true on = subst (λ (s : StoredPlace). undone_at us k (slot_by tables m k s) ≡ s) (same k on) (h.restores k)
     by_test k false off = undone_off tables m.change us k (slot_by tables m k (c k)) h.touched off ∙ off_touch tables m k (c k) off
 
 -- what a transaction's changes touch is the same in both
@@ -205,7 +205,7 @@ rolled_none top (m ∷ ms) all = rw all.0 (ap (λ (xs : List Made). m ∷ xs) (r
 -- UNDOING THE LAST CHANGE
 
 -- nothing later altered what a live transaction touched, if it made no later change
-stays : (tables : List Table) (top : ℕ) (m : Made) (ms : List Made) (k : List ℕ) (s : Slot) → m.top ≡ Some top → AllByRecursion (KeepsOff tables m) ms → NoneBy top ms →
+stays : (tables : List Table) (top : ℕ) (m : Made) (ms : List Made) (k : List ℕ) (s : StoredPlace) → m.top ≡ Some top → AllByRecursion (KeepsOff tables m) ms → NoneBy top ms →
     touches tables m.change k ≡ true → slot_from tables ms k s ≡ s
 stays tables top m [] k s own off none on = refl
 stays tables top m (n ∷ ms) k s own off none on =

@@ -6,7 +6,7 @@ use Rattle.std.specs.Prelude.{Option}
 use Rattle.std.specs.List.{AllByRecursion}
 use Rattle.pqformat.specs.Fields.{int32}
 use Rattle.pqformat.proofs.Numbers.{length-int32}
-use Rattle.store.specs.declared.places.slot.Slot.{Slot}
+use Rattle.store.specs.declared.places.stored_place.StoredPlace.{StoredPlace}
 use Rattle.tables.specs.declared.kinds.Value.{Value}
 use Rattle.tables.specs.declared.table.Table.{Table}
 use Rattle.tables.specs.declared.changes.change.Change.{Change}
@@ -62,11 +62,11 @@ within_put p oid (x ∷ oids) front on =
 
 -- ROWS
 
-row_if : (a : Bool) (s t : Slot) → (cond a s t).row ≡ cond a s.row t.row
+row_if : (a : Bool) (s t : StoredPlace) → (cond a s t).row ≡ cond a s.row t.row
 row_if true s t = refl
 row_if false s t = refl
 
-emptied_none : (top : Option ℕ) (oids : List ℕ) (k : List ℕ) (s : Slot) → s.row ≡ None → (put_at top (all_emptied oids) k s).row ≡ None
+emptied_none : (top : Option ℕ) (oids : List ℕ) (k : List ℕ) (s : StoredPlace) → s.row ≡ None → (put_at top (all_emptied oids) k s).row ≡ None
 emptied_none top [] k s none = none
 emptied_none top (x ∷ oids) k s none = emptied_none top oids k (cond (same_key k (table_place x)) (record { row = None; owner = top }) s) (by_test (same_key k (table_place x)))
   where
@@ -86,7 +86,7 @@ not_put (x ∷ oids) k off =
         absurd cc
     by_test false on rest = rest
 
-row_by : (tables : List Table) (top : Option ℕ) (change : Change) (key : Key) (s : Slot) (rows : Rows) → s.row ≡ rows key →
+row_by : (tables : List Table) (top : Option ℕ) (change : Change) (key : Key) (s : StoredPlace) (rows : Rows) → s.row ≡ rows key →
     (put_at top (puts_of tables change) (key_text key) (slot_after_emptying top change (key_text key) s)).row ≡ rows_with tables change rows key
 row_by tables top (changes.Insert oid row) key s rows is =
     let a = same_key (key_text key) (row_place tables oid row) in
@@ -102,15 +102,15 @@ row_by tables top (changes.Delete oid old) key s rows is =
 row_by tables top (changes.Message message) key s rows is = is
 row_by tables top (changes.Truncate oids) key s rows is = by_test (is_within oids (key_text key)) refl
   where
-    gone : (r : Option (List Value)) → (let t : Slot = cond (is_some r) (record { row = None; owner = top }) (record { row = r; owner = s.owner }) in t.row ≡ None)
+    gone : (r : Option (List Value)) → (let t : StoredPlace = cond (is_some r) (record { row = None; owner = top }) (record { row = r; owner = s.owner }) in t.row ≡ None)
     gone None = refl
     gone (Some row) = refl
 
     by_test : (a : Bool) → is_within oids (key_text key) ≡ a → (put_at top (all_emptied oids) (key_text key) (cond a (emptied_slot top s) s)).row ≡ cond a None (rows key)
     by_test true on = emptied_none top oids (key_text key) (emptied_slot top s) (gone s.row)
-    by_test false off = ap (λ (t : Slot). t.row) (put_off top (all_emptied oids) (key_text key) s (not_put oids (key_text key) off)) ∙ is
+    by_test false off = ap (λ (t : StoredPlace). t.row) (put_off top (all_emptied oids) (key_text key) s (not_put oids (key_text key) off)) ∙ is
 
-pub rows_are : (tables : List Table) (ms : List Made) (key : Key) (s : Slot) (rows : Rows) → s.row ≡ rows key → (slot_from tables ms (key_text key) s).row ≡ rows_from tables ms rows key
+pub rows_are : (tables : List Table) (ms : List Made) (key : Key) (s : StoredPlace) (rows : Rows) → s.row ≡ rows key → (slot_from tables ms (key_text key) s).row ≡ rows_from tables ms rows key
 rows_are tables [] key s rows is = is
 rows_are tables (m ∷ ms) key s rows is =
     rows_are tables ms key (slot_by tables m (key_text key) s) (rows_with tables m.change rows) (row_by tables m.top m.change key s rows is)
@@ -128,7 +128,7 @@ places_put k tables (changes.Truncate oids) = all_places oids
     all_places [] = refl
     all_places (x ∷ xs) = ap (λ (b : Bool). same_key k (table_place x) || b) (all_places xs)
 
-put_owner : (top : Option ℕ) (ps : List Put) (k : List ℕ) (s : Slot) → (put_at top ps k s).owner ≡ cond (is_put k ps) top s.owner
+put_owner : (top : Option ℕ) (ps : List Put) (k : List ℕ) (s : StoredPlace) → (put_at top ps k s).owner ≡ cond (is_put k ps) top s.owner
 put_owner top [] k s = refl
 put_owner top (p ∷ ps) k s =
     put_owner top ps k (cond (same_key k p.0) (record { row = p.1; owner = top }) s) ∙ by_test (same_key k p.0) (is_put k ps)
@@ -138,7 +138,7 @@ put_owner top (p ∷ ps) k s =
     by_test true false = refl
     by_test false b = refl
 
-emptied_owner : (top : Option ℕ) (change : Change) (k : List ℕ) (s : Slot) → (slot_after_emptying top change k s).owner ≡ cond (is_emptied change k && is_some s.row) top s.owner
+emptied_owner : (top : Option ℕ) (change : Change) (k : List ℕ) (s : StoredPlace) → (slot_after_emptying top change k s).owner ≡ cond (is_emptied change k && is_some s.row) top s.owner
 emptied_owner top (changes.Insert oid row) k s = refl
 emptied_owner top (changes.Update oid old row) k s = refl
 emptied_owner top (changes.Delete oid old) k s = refl
@@ -151,10 +151,10 @@ emptied_owner top (changes.Truncate oids) k s = by_test (is_within oids k) (is_s
     by_test false b = refl
 
 -- whether a change takes a place for its transaction: it puts there, or takes the row away
-abbrev pub takes : List Table → Change → List ℕ → Slot → Bool
+abbrev pub takes : List Table → Change → List ℕ → StoredPlace → Bool
 takes tables change k s = is_put k (puts_of tables change) || (is_emptied change k && is_some s.row)
 
-pub takes_touch : (tables : List Table) (change : Change) (k : List ℕ) (s : Slot) → takes tables change k s ≡ true → touches tables change k ≡ true
+pub takes_touch : (tables : List Table) (change : Change) (k : List ℕ) (s : StoredPlace) → takes tables change k s ≡ true → touches tables change k ≡ true
 takes_touch tables change k s on = by_test (is_put k (puts_of tables change)) (is_emptied change k) (is_some s.row) on
   where
     by_test : (a b c : Bool) → (a || (b && c)) ≡ true → (a || b) ≡ true
@@ -162,7 +162,7 @@ takes_touch tables change k s on = by_test (is_put k (puts_of tables change)) (i
     by_test false true c on = refl
     by_test false false c on = absurd cc
 
-pub owner_by : (tables : List Table) (m : Made) (k : List ℕ) (s : Slot) → (slot_by tables m k s).owner ≡ cond (takes tables m.change k s) m.top s.owner
+pub owner_by : (tables : List Table) (m : Made) (k : List ℕ) (s : StoredPlace) → (slot_by tables m k s).owner ≡ cond (takes tables m.change k s) m.top s.owner
 owner_by tables m k s =
     put_owner m.top (puts_of tables m.change) k (slot_after_emptying m.top m.change k s)
     ∙ ap (λ (o : Option ℕ). cond (is_put k (puts_of tables m.change)) m.top o) (emptied_owner m.top m.change k s)
@@ -181,7 +181,7 @@ and_false false b off on = refl
 abbrev holds_by : List Table → ℕ → List ℕ → Made → Bool
 holds_by tables top k m = is_other top m.top && is_among k (places_of tables m.change)
 
-stays_owned : (tables : List Table) (x : ℕ) (m : Made) (ms : List Made) (k : List ℕ) (s : Slot) → m.top ≡ Some x → AllByRecursion (KeepsOff tables m) ms → touches tables m.change k ≡ true →
+stays_owned : (tables : List Table) (x : ℕ) (m : Made) (ms : List Made) (k : List ℕ) (s : StoredPlace) → m.top ≡ Some x → AllByRecursion (KeepsOff tables m) ms → touches tables m.change k ≡ true →
     s.owner ≡ Some x → (slot_from tables ms k s).owner ≡ Some x
 stays_owned tables x m [] k s own off on is = is
 stays_owned tables x m (n ∷ ms) k s own off on is =
@@ -199,7 +199,7 @@ pub and_right : (a b : Bool) → (a && b) ≡ true → b ≡ true
 and_right true b is = is
 and_right false b is = absurd cc
 
-pub held : (tables : List Table) (top : ℕ) (ms : List Made) (k : List ℕ) (s : Slot) → AreApart tables ms → is_held tables top ms k ≡ true → is_other top (slot_from tables ms k s).owner ≡ true
+pub held : (tables : List Table) (top : ℕ) (ms : List Made) (k : List ℕ) (s : StoredPlace) → AreApart tables ms → is_held tables top ms k ≡ true → is_other top (slot_from tables ms k s).owner ≡ true
 held tables top [] k s apart on = absurd cc
 held tables top (m ∷ ms) k s apart on = by_test (holds_by tables top k m) refl on (held tables top ms k (slot_by tables m k s) apart.1)
   where
@@ -261,7 +261,7 @@ not_other : (top : ℕ) (o : Option ℕ) → Follows o (Some top) → is_other t
 not_other top None follows = refl
 not_other top (Some x) follows = ap (is_other top) (sym follows) ∙ ap not (eq-eqb top top refl)
 
-pub not_held : (tables : List Table) (top : ℕ) (ms : List Made) (k : List ℕ) (s : Slot) → AllByRecursion (Off tables top k) ms → is_other top s.owner ≡ false →
+pub not_held : (tables : List Table) (top : ℕ) (ms : List Made) (k : List ℕ) (s : StoredPlace) → AllByRecursion (Off tables top k) ms → is_other top s.owner ≡ false →
     is_other top (slot_from tables ms k s).owner ≡ false
 not_held tables top [] k s free off = off
 not_held tables top (m ∷ ms) k s free off =
@@ -314,10 +314,10 @@ keeps_off tables top m n own puts_alone off k on also =
 
 -- ROWS STAND AT THEIR KEYS
 
-abbrev AtHome : List Table → List ℕ → Slot → Type 0
+abbrev AtHome : List Table → List ℕ → StoredPlace → Type 0
 AtHome tables k s = (row : List Value) → s.row ≡ Some row → IsHome tables k row
 
-home_put : (tables : List Table) (top : Option ℕ) (oid : ℕ) (put : List Value) (k : List ℕ) (s : Slot) → FitsRow tables oid put → AtHome tables k s →
+home_put : (tables : List Table) (top : Option ℕ) (oid : ℕ) (put : List Value) (k : List ℕ) (s : StoredPlace) → FitsRow tables oid put → AtHome tables k s →
     AtHome tables k (cond (same_key k (row_place tables oid put)) (record { row = Some put; owner = top }) s)
 home_put tables top oid put k s fits home = by_test (same_key k (row_place tables oid put)) (keys_same k (row_place tables oid put))
   where
@@ -328,14 +328,14 @@ home_put tables top oid put k s fits home = by_test (same_key k (row_place table
         same_row e = cc
     by_test false same row is = home row is
 
-home_gone : (tables : List Table) (top : Option ℕ) (a : Bool) (k : List ℕ) (s : Slot) → AtHome tables k s → AtHome tables k (cond a (record { row = None; owner = top }) s)
+home_gone : (tables : List Table) (top : Option ℕ) (a : Bool) (k : List ℕ) (s : StoredPlace) → AtHome tables k s → AtHome tables k (cond a (record { row = None; owner = top }) s)
 home_gone tables top true k s home row is = absurd (never is)
   where
     never : None ≡ Some row → ⊥
     never e = absurd cc
 home_gone tables top false k s home row is = home row is
 
-home_by : (tables : List Table) (top : Option ℕ) (change : Change) (k : List ℕ) (s : Slot) → FitsChange tables change → AtHome tables k s →
+home_by : (tables : List Table) (top : Option ℕ) (change : Change) (k : List ℕ) (s : StoredPlace) → FitsChange tables change → AtHome tables k s →
     AtHome tables k (put_at top (puts_of tables change) k (slot_after_emptying top change k s))
 home_by tables top (changes.Insert oid row) k s fits home = home_put tables top oid row k s fits home
 home_by tables top (changes.Update oid old row) k s fits home =
@@ -349,11 +349,11 @@ home_by tables top (changes.Truncate oids) k s fits home = all_gone oids (cond (
     by_test true row is = home_gone tables top (is_some s.row) k s home row is
     by_test false row is = home row is
 
-    all_gone : (xs : List ℕ) (t : Slot) → AtHome tables k t → AtHome tables k (put_at top (all_emptied xs) k t)
+    all_gone : (xs : List ℕ) (t : StoredPlace) → AtHome tables k t → AtHome tables k (put_at top (all_emptied xs) k t)
     all_gone [] t there = there
     all_gone (x ∷ xs) t there = all_gone xs (cond (same_key k (table_place x)) (record { row = None; owner = top }) t) (home_gone tables top (same_key k (table_place x)) k t there)
 
-home_from : (tables : List Table) (ms : List Made) (k : List ℕ) (s : Slot) → AllByRecursion (λ m. FitsChange tables m.change) ms → AtHome tables k s → AtHome tables k (slot_from tables ms k s)
+home_from : (tables : List Table) (ms : List Made) (k : List ℕ) (s : StoredPlace) → AllByRecursion (λ m. FitsChange tables m.change) ms → AtHome tables k s → AtHome tables k (slot_from tables ms k s)
 home_from tables [] k s fits home = home
 home_from tables (m ∷ ms) k s fits home = home_from tables ms k (slot_by tables m k s) fits.1 (home_by tables m.top m.change k s fits.0 home)
 

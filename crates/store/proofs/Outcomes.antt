@@ -3,7 +3,7 @@ use Rattle.std.proofs.Common.{◌≡◌, ℕ, cond, List, [], ◌∷◌, ◌++�
 use Rattle.std.specs.Prelude.{Option, Result, Ok, Err, OnOk, OnErr, IfOk, IfErr, nat_eq}
 use Rattle.store.specs.declared.store_fault.StoreFault.{StoreFault}
 use Rattle.store.specs.declared.store_fault.StoreFault.TheVariants as faults
-use Rattle.store.specs.declared.places.slot.Undo.{Undo}
+use Rattle.store.specs.declared.places.stored_place.Undo.{Undo}
 use Rattle.store.specs.Slots.{Entries, CanUndo, slot_at, undone_at}
 use Rattle.store.specs.History.{change_made}
 use Rattle.store.specs.Keeping.{StoreState, journal_of, Put, put_all, noted_of, AreShort, Makes, IsSame, IsRefusal, IsRefusalOrMemory, RefusedOrMemory}

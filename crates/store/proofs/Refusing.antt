@@ -7,8 +7,8 @@ use Rattle.std.specs.Cmp.{nat_eq_equiv}
 use Rattle.std.proofs.lemmas.Bool.{eqb-true}
 use Rattle.std.proofs.lemmas.Map.Steps.{length-le_from_keys}
 use Rattle.pqformat.specs.Fields.{int32}
-use Rattle.store.specs.declared.places.slot.Slot.{Slot}
-use Rattle.store.specs.declared.places.slot.Undo.{Undo}
+use Rattle.store.specs.declared.places.stored_place.StoredPlace.{StoredPlace}
+use Rattle.store.specs.declared.places.stored_place.Undo.{Undo}
 use Rattle.tables.specs.declared.table.Table.{Table}
 use Rattle.tables.specs.declared.changes.change_body.TheConstants.{MAX_TRUNCATED}
 use Rattle.tables.specs.declared.changes.change.Change.{Change}
@@ -142,7 +142,7 @@ within_held s h top oids at keeps = by_test (is_any_held s.tables top h oids) re
     by_test true on =
         let held = any_held_at s.tables top oids h on in
         other_found top oids s.slots held.0 held.1 (place_held s h top held.0 keeps held.2)
-    by_test false off = none_other top oids s.slots s.slots at (λ k within. ap (λ (t : Slot). is_other top t.owner) (keeps.stands k)
+    by_test false off = none_other top oids s.slots s.slots at (λ k within. ap (λ (t : StoredPlace). is_other top t.owner) (keeps.stands k)
         ∙ not_held s.tables top h k vacant (all_map (λ m. KeepsOff s.tables m n) (Off s.tables top k) h
         (λ m keeps_off on. keeps_off k on (right_true (is_put k (all_emptied oids)) (is_within oids k) within)) (all_off s.tables top oids h off)) refl)
 

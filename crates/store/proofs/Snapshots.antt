@@ -10,8 +10,8 @@ use Rattle.std.proofs.lemmas.Map.Keys.{IsDistinct-head, IsDistinct-tail}
 use Rattle.indexmap.specs.IndexMap.{insert_entry}
 use Rattle.tables.specs.declared.kinds.Value.{Value}
 use Rattle.tables.specs.declared.table.Table.{Table}
-use Rattle.store.specs.declared.places.slot.Slot.{Slot}
-use Rattle.store.specs.declared.places.slot.Undo.{Undo}
+use Rattle.store.specs.declared.places.stored_place.StoredPlace.{StoredPlace}
+use Rattle.store.specs.declared.places.stored_place.Undo.{Undo}
 use Rattle.store.specs.Slots.{same_key, vacant, Entries, entries_of, slot_at, slots_with, CanUndo, undone_at}
 use Rattle.store.specs.History.{Made, is_top, is_within, history_after_rollback}
 use Rattle.store.specs.Rows.{key_text}
@@ -24,11 +24,11 @@ use Rattle.store.proofs.Storing.{state, keeps_popped, keeps_same, row_is}
 
 -- EACH PLACE ONCE
 
-none_at : {A : Type 0} (k : Vec ℕ A) (es : List (Vec ℕ A × Slot)) → AllByRecursion (λ y. pointwise nat_eq k.items y.items ≡ false) (keys_of es) → lookup (same_key k.items) (entries_of es) ≡ None
+none_at : {A : Type 0} (k : Vec ℕ A) (es : List (Vec ℕ A × StoredPlace)) → AllByRecursion (λ y. pointwise nat_eq k.items y.items ≡ false) (keys_of es) → lookup (same_key k.items) (entries_of es) ≡ None
 none_at k [] off = refl
 none_at k (e ∷ es) off = rw off.0 (none_at k es off.1)
 
-pub each_once : {A : Type 0} (es : List (Vec ℕ A × Slot)) → IsDistinct (λ x y. pointwise nat_eq x.items y.items) (keys_of es) → AreOnce (entries_of es)
+pub each_once : {A : Type 0} (es : List (Vec ℕ A × StoredPlace)) → IsDistinct (λ x y. pointwise nat_eq x.items y.items) (keys_of es) → AreOnce (entries_of es)
 each_once [] distinct = tt
 each_once (e ∷ es) distinct = (
   none_at e.0 es (IsDistinct-head (λ x y. pointwise nat_eq x.items y.items) e.0 (keys_of es) distinct),
@@ -37,7 +37,7 @@ each_once (e ∷ es) distinct = (
 
 -- COPIES
 
-apart_last : (j k : List ℕ) (v : Slot) (es rest : Entries) → lookup (same_key j) (es ++ (k, v) ∷ rest) ≡ None → same_key j k ≡ false
+apart_last : (j k : List ℕ) (v : StoredPlace) (es rest : Entries) → lookup (same_key j) (es ++ (k, v) ∷ rest) ≡ None → same_key j k ≡ false
 apart_last j k v [] rest none = by_test (same_key j k) none
   where
     by_test : (a : Bool) → cond a (Some v) (lookup (same_key j) rest) ≡ None → a ≡ false
@@ -49,16 +49,16 @@ apart_last j k v (e ∷ es) rest none = by_test (same_key j e.0) none (apart_las
     by_test true is later = absurd cc
     by_test false is later = later is
 
-put_last : (k : List ℕ) (v : Slot) (es rest : Entries) → AreOnce (es ++ (k, v) ∷ rest) → slots_with k v es ≡ es ++ (k, v) ∷ []
+put_last : (k : List ℕ) (v : StoredPlace) (es rest : Entries) → AreOnce (es ++ (k, v) ∷ rest) → slots_with k v es ≡ es ++ (k, v) ∷ []
 put_last k v [] rest once = refl
 put_last k v (e ∷ es) rest once =
     let off : same_key k e.0 ≡ false = nat_list_eq_equiv.symm k e.0 ∙ apart_last e.0 k v es rest once.0 in
     rw off (ap (λ (fs : Entries). e ∷ fs) (put_last k v es rest once.1))
 
-pub copied_next : {A : Type 0} (done new : List (Vec ℕ A × Slot)) (es rest : Entries) (name : Vec ℕ A) (k : List ℕ) (v w : Slot) → name.items ≡ k → w ≡ v →
+pub copied_next : {A : Type 0} (done new : List (Vec ℕ A × StoredPlace)) (es rest : Entries) (name : Vec ℕ A) (k : List ℕ) (v w : StoredPlace) → name.items ≡ k → w ≡ v →
     new ≡ insert_entry (λ x y. pointwise nat_eq x.items y.items) done name w → AreOnce es → entries_of done ++ (k, v) ∷ rest ≡ es → entries_of new ++ rest ≡ es
 copied_next done new es rest name k v w named same made once parts =
-    ap (λ fs. entries_of fs ++ rest) made ∙ ap (λ (fs : Entries). fs ++ rest) (placed done name w ∙ ap (λ (t : Slot). slots_with name.items t (entries_of done)) same
+    ap (λ fs. entries_of fs ++ rest) made ∙ ap (λ (fs : Entries). fs ++ rest) (placed done name w ∙ ap (λ (t : StoredPlace). slots_with name.items t (entries_of done)) same
     ∙ ap (λ (t : List ℕ). slots_with t v (entries_of done)) named ∙ put_last k v (entries_of done) rest (subst (λ (fs : Entries). AreOnce fs) (sym parts) once))
     ∙ append_assoc (entries_of done) ((k, v) ∷ []) rest ∙ parts
 
@@ -93,13 +93,13 @@ standing_once (e ∷ es) once = by_row e.1.row (standing_once es once.1)
     by_row None rest = rest
     by_row (Some row) rest = (gone_too es e.0 once.0, rest)
 
-off_later : (e : List ℕ × Slot) (es : Entries) (k : List ℕ) (row : List Value) → lookup (same_key e.0) es ≡ None → (slot_at es k).row ≡ Some row → same_key k e.0 ≡ false
+off_later : (e : List ℕ × StoredPlace) (es : Entries) (k : List ℕ) (row : List Value) → lookup (same_key e.0) es ≡ None → (slot_at es k).row ≡ Some row → same_key k e.0 ≡ false
 off_later e es k row none is = by_test (same_key k e.0) refl
   where
     by_test : (a : Bool) → same_key k e.0 ≡ a → a ≡ false
     by_test false apart = refl
     by_test true on =
-        let gone : (slot_at es k).row ≡ None = ap (λ (j : List ℕ). (slot_at es j).row) (keys_same k e.0 on) ∙ ap (λ (o : Option Slot). (unwrap_or o vacant).row) none in
+        let gone : (slot_at es k).row ≡ None = ap (λ (j : List ℕ). (slot_at es j).row) (keys_same k e.0 on) ∙ ap (λ (o : Option StoredPlace). (unwrap_or o vacant).row) none in
         let never : None ≡ Some row = sym gone ∙ is in
         absurd cc
 
@@ -190,7 +190,7 @@ settling_next tables slots top rest h none (now, keeps, is) = (
     by_test x true on = ap (λ (y : ℕ). journal_of y rest) (eqb-true x top on) ∙ none
     by_test x false off = refl
 
-all_settled : (tables : List Table) (ms : List Made) (before : List ℕ → Slot) → ((x : ℕ) → AreNotes tables x ms before []) → settled_history ms ≡ ms
+all_settled : (tables : List Table) (ms : List Made) (before : List ℕ → StoredPlace) → ((x : ℕ) → AreNotes tables x ms before []) → settled_history ms ≡ ms
 all_settled tables [] before notes = refl
 all_settled tables (m ∷ ms) before notes = by_top m.top refl (all_settled tables ms (λ place. slot_by tables m place (before place)))
   where
@@ -215,22 +215,22 @@ settled_are tables slots h once settling =
     record {
       at = λ key. standing_at slots (key_text key) once ∙ row_is (state tables slots []) (settled_history h) key keeps;
       once = standing_once slots once;
-      home = homes tables slots once (λ k row is. stands_home tables (settled_history h) k row keeps.fits (ap (λ (t : Slot). t.row) (sym (keeps.stands k)) ∙ is));
+      home = homes tables slots once (λ k row is. stands_home tables (settled_history h) k row keeps.fits (ap (λ (t : StoredPlace). t.row) (sym (keeps.stands k)) ∙ is));
     }
 
 -- READING
 
-taken_of : {A : Type 0} (n : ℕ) (es : List (Vec ℕ A × Slot)) → entries_of (take n es) ≡ take n (entries_of es)
+taken_of : {A : Type 0} (n : ℕ) (es : List (Vec ℕ A × StoredPlace)) → entries_of (take n es) ≡ take n (entries_of es)
 taken_of zero es = refl
 taken_of (suc n) [] = refl
 taken_of (suc n) (e ∷ es) = ap (λ (fs : Entries). (e.0.items, e.1) ∷ fs) (taken_of n es)
 
-dropped_of : {A : Type 0} (n : ℕ) (es : List (Vec ℕ A × Slot)) → entries_of (drop n es) ≡ drop n (entries_of es)
+dropped_of : {A : Type 0} (n : ℕ) (es : List (Vec ℕ A × StoredPlace)) → entries_of (drop n es) ≡ drop n (entries_of es)
 dropped_of zero es = refl
 dropped_of (suc n) [] = refl
 dropped_of (suc n) (e ∷ es) = dropped_of n es
 
-pub range_of : {A : Type 0} (es : List (Vec ℕ A × Slot)) (a b : ℕ) → entries_of (slice_range es a b) ≡ slice_range (entries_of es) a b
+pub range_of : {A : Type 0} (es : List (Vec ℕ A × StoredPlace)) (a b : ℕ) → entries_of (slice_range es a b) ≡ slice_range (entries_of es) a b
 range_of es a b = taken_of (b - a) (drop a es) ∙ ap (take (b - a)) (dropped_of a es)
 
 within_append : (oid : ℕ) (es fs : Entries) → standing_within oid (standing_of (es ++ fs)) ≡ standing_within oid (standing_of es) ++ standing_within oid (standing_of fs)
@@ -256,7 +256,7 @@ gives_part oid es start end rows le are = record {
   are = are;
 }
 
-pub length_of : {A : Type 0} (es : List (Vec ℕ A × Slot)) → length (entries_of es) ≡ length es
+pub length_of : {A : Type 0} (es : List (Vec ℕ A × StoredPlace)) → length (entries_of es) ≡ length es
 length_of [] = refl
 length_of (e ∷ es) = ap suc (length_of es)
 

@@ -5,8 +5,8 @@ use Rattle.std.proofs.lemmas.Bool.{eqb-true}
 use Rattle.std.specs.List.{AllByRecursion}
 use Rattle.std.specs.Map.{lookup}
 use Rattle.store.specs.declared.places.key.TheConstants.{MAX_KEY_LENGTH}
-use Rattle.store.specs.declared.places.slot.Slot.{Slot}
-use Rattle.store.specs.declared.places.slot.Undo.{Undo}
+use Rattle.store.specs.declared.places.stored_place.StoredPlace.{StoredPlace}
+use Rattle.store.specs.declared.places.stored_place.Undo.{Undo}
 use Rattle.tables.specs.declared.table.Table.{Table}
 use Rattle.tables.specs.declared.changes.change.Change.{Change}
 use Rattle.store.specs.Slots.{same_key, vacant, Entries, slot_at, slots_with, is_used, CanUndo, undone_at}
@@ -48,10 +48,10 @@ slot_all top (p ∷ ps) es k =
 puts_undone : (top : Option ℕ) (ps : List Put) (es : Entries) (k : List ℕ) → undone_at (noted_of top ps es) k (put_at top ps k (slot_at es k)) ≡ slot_at es k
 puts_undone top [] es k = refl
 puts_undone top (p ∷ ps) es k =
-    ap (λ (s : Slot). cond (same_key k p.0) (slot_at es p.0) (undone_at (noted_of top ps next) k (put_at top ps k s))) (sym (slot_put p.0 slot es k))
-    ∙ ap (λ (s : Slot). cond (same_key k p.0) (slot_at es p.0) s) (puts_undone top ps next k ∙ slot_put p.0 slot es k) ∙ by_test (same_key k p.0) (keys_same k p.0)
+    ap (λ (s : StoredPlace). cond (same_key k p.0) (slot_at es p.0) (undone_at (noted_of top ps next) k (put_at top ps k s))) (sym (slot_put p.0 slot es k))
+    ∙ ap (λ (s : StoredPlace). cond (same_key k p.0) (slot_at es p.0) s) (puts_undone top ps next k ∙ slot_put p.0 slot es k) ∙ by_test (same_key k p.0) (keys_same k p.0)
   where
-    slot : Slot
+    slot : StoredPlace
     slot = record { row = p.1; owner = top }
 
     next : Entries
@@ -64,13 +64,13 @@ puts_undone top (p ∷ ps) es k =
 can_puts : (top : ℕ) (ps : List Put) (es : Entries) → CanUndo (noted_of (Some top) ps es) (λ k. put_at (Some top) ps k (slot_at es k))
 can_puts top [] es = tt
 can_puts top (p ∷ ps) es = (
-  ap (λ (s : Slot). is_used (undone_at (noted_of (Some top) ps next) p.0 (put_at (Some top) ps p.0 s))) (sym (slot_put p.0 slot es p.0))
+  ap (λ (s : StoredPlace). is_used (undone_at (noted_of (Some top) ps next) p.0 (put_at (Some top) ps p.0 s))) (sym (slot_put p.0 slot es p.0))
       ∙ ap is_used (puts_undone (Some top) ps next p.0 ∙ put_there p.0 slot es),
   can_same (noted_of (Some top) ps next) (λ k. put_at (Some top) ps k (slot_at next k)) (λ k. put_at (Some top) (p ∷ ps) k (slot_at es k)) (λ k. ap (put_at (Some top) ps k) (slot_put p.0 slot es k))
       (can_puts top ps next),
 )
   where
-    slot : Slot
+    slot : StoredPlace
     slot = record { row = p.1; owner = Some top }
 
     next : Entries
@@ -179,7 +179,7 @@ same_puts s new top ps slots same made short back kept journals = record {
   tables = same;
   journals = journals;
   slots = record {
-    slots = λ k. back can k ∙ ap (λ (t : Slot). undone_at us k t) (stands k) ∙ puts_undone (Some top) ps s.slots k;
+    slots = λ k. back can k ∙ ap (λ (t : StoredPlace). undone_at us k t) (stands k) ∙ puts_undone (Some top) ps s.slots k;
     short = λ all. kept can (subst AreShort (sym made) (short_all (Some top) ps s.slots short all));
   };
 }
@@ -213,7 +213,7 @@ pub keeps_popped : (s new : StoreState) (top : ℕ) (undos : List Undo) (h : Lis
     (CanUndo undos (slot_at s.slots) → (k : List ℕ) → slot_at new.slots k ≡ undone_at undos k (slot_at s.slots k)) → (CanUndo undos (slot_at s.slots) → AreShort s.slots → AreShort new.slots) →
     Keeps s h → Keeps new (history_after_rollback top (length (journal_of top new.journals)) h)
 keeps_popped s new top undos h same popped others back short keeps = with_tables new s.tables (history_after_rollback top n h) same (record {
-  stands = λ k. back can k ∙ ap (λ (t : Slot). undone_at undos k t) (keeps.stands k)
+  stands = λ k. back can k ∙ ap (λ (t : StoredPlace). undone_at undos k t) (keeps.stands k)
       ∙ undone_rolled s.tables top h nothing_at left undos k keeps.apart own;
   notes = λ x. by_test x (nat_eq top x) refl;
   apart = apart_rolled s.tables top n h keeps.apart;
@@ -270,7 +270,7 @@ pub keeps_forgotten : (s new : StoreState) (top : ℕ) (h : List Made) → new.t
     ((k : List ℕ) → slot_at new.slots k ≡ cond (is_in_journal k (journal_of top s.journals)) (slot_after_end top (slot_at s.slots k)) (slot_at s.slots k)) →
     (AreShort s.slots → AreShort new.slots) → Keeps s h → Keeps new (history_after_end top h)
 keeps_forgotten s new top h same journals slots short keeps = with_tables new s.tables (history_after_end top h) same (record {
-  stands = λ k. slots k ∙ ap (λ (t : Slot). cond (is_in_journal k (journal_of top s.journals)) (slot_after_end top t) t) (keeps.stands k)
+  stands = λ k. slots k ∙ ap (λ (t : StoredPlace). cond (is_in_journal k (journal_of top s.journals)) (slot_after_end top t) t) (keeps.stands k)
       ∙ freed_noted s.tables top h (journal_of top s.journals) k (keeps.notes top) ∙ sym (from_freed s.tables top h k vacant);
   notes = λ x. by_test x (nat_eq top x) refl;
   apart = apart_forgotten s.tables top h keeps.apart;
@@ -292,15 +292,15 @@ keeps_forgotten s new top h same journals slots short keeps = with_tables new s.
 -- WHAT THE SLOTS TELL
 
 pub row_is : (s : StoreState) (h : List Made) (key : Key) → Keeps s h → row_at s key ≡ rows_after s.tables h key
-row_is s h key keeps = ap (λ (t : Slot). t.row) (keeps.stands (key_text key)) ∙ rows_are s.tables h key vacant (λ k. None) refl
+row_is s h key keeps = ap (λ (t : StoredPlace). t.row) (keeps.stands (key_text key)) ∙ rows_are s.tables h key vacant (λ k. None) refl
 
 pub place_held : (s : StoreState) (h : List Made) (top : ℕ) (k : List ℕ) → Keeps s h → is_held s.tables top h k ≡ true → is_other top (slot_at s.slots k).owner ≡ true
-place_held s h top k keeps on = ap (λ (t : Slot). is_other top t.owner) (keeps.stands k) ∙ held s.tables top h k vacant keeps.apart on
+place_held s h top k keeps on = ap (λ (t : StoredPlace). is_other top t.owner) (keeps.stands k) ∙ held s.tables top h k vacant keeps.apart on
 
 pub held_key : (s : StoreState) (h : List Made) (top : ℕ) (key : Key) → Keeps s h → key_held s top key ≡ is_key_held s.tables top h key
 held_key s h top key keeps =
-    ap (λ (t : Slot). is_other top t.owner || is_other top (slot_at s.slots (key_text key)).owner) (keeps.stands (table_place key.oid))
-    ∙ ap (λ (t : Slot). is_other top (slot_from s.tables h (table_place key.oid) vacant).owner || is_other top t.owner) (keeps.stands (key_text key))
+    ap (λ (t : StoredPlace). is_other top t.owner || is_other top (slot_at s.slots (key_text key)).owner) (keeps.stands (table_place key.oid))
+    ∙ ap (λ (t : StoredPlace). is_other top (slot_from s.tables h (table_place key.oid) vacant).owner || is_other top t.owner) (keeps.stands (key_text key))
     ∙ key_held_is s.tables top h key keeps.apart
 
 -- nothing stands at a key that is too long
@@ -316,7 +316,7 @@ pub long_slot : (s : StoreState) (key : Key) → MAX_KEY_LENGTH < length (key_te
 long_slot s key long short = long_away s.slots (key_text key) long short
 
 pub long_vacant : (s : StoreState) (key : Key) → MAX_KEY_LENGTH < length (key_text key) → AreShort s.slots → row_at s key ≡ None
-long_vacant s key long short = ap (λ (t : Slot). t.row) (long_slot s key long short)
+long_vacant s key long short = ap (λ (t : StoredPlace). t.row) (long_slot s key long short)
 
 pub shown_forgotten : (tables : List Table) (slots freed_slots : Entries) (journals rest : Journals) (top : ℕ) (journal : List (List Undo)) (s : StoreState) (h : List Made) → state tables slots journals ≡ s →
     journal ≡ journal_of top journals → ((x : ℕ) → journal_of x rest ≡ cond (nat_eq top x) [] (journal_of x journals)) →

@@ -7,8 +7,8 @@ use Rattle.std.specs.Map.{keys_of}
 use Rattle.std.proofs.lemmas.Map.Keys.{IsDistinct-head, IsDistinct-tail}
 use Rattle.pqformat.specs.Fields.{int32}
 use Rattle.pqformat.proofs.Numbers.{length-int32}
-use Rattle.store.specs.declared.places.slot.Slot.{Slot}
-use Rattle.store.specs.declared.places.slot.Undo.{Undo}
+use Rattle.store.specs.declared.places.stored_place.StoredPlace.{StoredPlace}
+use Rattle.store.specs.declared.places.stored_place.Undo.{Undo}
 use Rattle.tables.specs.declared.kinds.Value.{Value}
 use Rattle.store.specs.Slots.{same_key, Entries, entries_of, slot_at, slots_with, is_used, CanUndo, undone_at}
 use Rattle.store.specs.History.{is_other, is_within, is_among, table_place}
@@ -18,12 +18,12 @@ use Rattle.store.proofs.Undoing.{slot_put, put_there, keys_same, same_self, shor
 use Rattle.store.proofs.Histories.{all_more}
 use Rattle.store.proofs.Holding.{and_left, and_right, front_of_table, right_true}
 
-abbrev slot : Option (List Value) → Option ℕ → Slot
+abbrev slot : Option (List Value) → Option ℕ → StoredPlace
 slot row owner = record { row = row; owner = owner }
 
 -- ONE SLOT A PLACE
 
-tails : {A : Type 0} (k : Vec ℕ A) (v : Slot) (all : Entries) (es : List (Vec ℕ A × Slot)) → AllByRecursion (λ y. pointwise nat_eq k.items y.items ≡ false) (keys_of es) →
+tails : {A : Type 0} (k : Vec ℕ A) (v : StoredPlace) (all : Entries) (es : List (Vec ℕ A × StoredPlace)) → AllByRecursion (λ y. pointwise nat_eq k.items y.items ≡ false) (keys_of es) →
     AllByRecursion (λ e. slot_at all e.0 ≡ e.1) (entries_of es) → AllByRecursion (λ e. slot_at ((k.items, v) ∷ all) e.0 ≡ e.1) (entries_of es)
 tails k v all [] apart at = tt
 tails k v all (e ∷ es) apart at = (
@@ -31,7 +31,7 @@ tails k v all (e ∷ es) apart at = (
   tails k v all es apart.1 at.1,
 )
 
-pub at_place : {A : Type 0} (es : List (Vec ℕ A × Slot)) → IsDistinct (λ x y. pointwise nat_eq x.items y.items) (keys_of es) → AreAtPlace (entries_of es)
+pub at_place : {A : Type 0} (es : List (Vec ℕ A × StoredPlace)) → IsDistinct (λ x y. pointwise nat_eq x.items y.items) (keys_of es) → AreAtPlace (entries_of es)
 at_place [] distinct = tt
 at_place (e ∷ es) distinct = (
   rw (same_self e.0.items) refl,
@@ -63,7 +63,7 @@ none_other top oids all (e ∷ es) at free =
   where
     by_test : (a b : Bool) → is_other top e.1.owner ≡ a → is_within oids e.0 ≡ b → is_other_within top oids es ≡ false → ((a && b) || is_other_within top oids es) ≡ false
     by_test true true on within rest =
-        let off : is_other top e.1.owner ≡ false = ap (λ (s : Slot). is_other top s.owner) (sym at.0) ∙ free e.0 within in
+        let off : is_other top e.1.owner ≡ false = ap (λ (s : StoredPlace). is_other top s.owner) (sym at.0) ∙ free e.0 within in
         absurd cc
     by_test true false on within rest = rest
     by_test false b on within rest = rest
@@ -111,7 +111,7 @@ filled_off oids (e ∷ es) k off = by_test (is_some e.1.row && is_within oids e.
     by_test true on rest = apart (same_key k e.0) (keys_same k e.0) (and_right (is_some e.1.row) (is_within oids e.0) on) rest
     by_test false on rest = rest
 
-taken_is : (top : ℕ) (ps : List (List ℕ)) (k : List ℕ) (s : Slot) → taken_at top ps k s ≡ cond (is_among k ps) (slot None (Some top)) s
+taken_is : (top : ℕ) (ps : List (List ℕ)) (k : List ℕ) (s : StoredPlace) → taken_at top ps k s ≡ cond (is_among k ps) (slot None (Some top)) s
 taken_is top [] k s = refl
 taken_is top (p ∷ ps) k s = taken_is top ps k (cond (same_key k p) (slot None (Some top)) s) ∙ by_test (same_key k p) (is_among k ps)
   where
@@ -127,7 +127,7 @@ filled_row oids all (e ∷ es) k at among = by_test (is_some e.1.row && is_withi
   where
     here : is_some e.1.row ≡ true → (a : Bool) → (a ≡ true → k ≡ e.0) → (a || is_among k (filled_within oids es)) ≡ true →
         (is_among k (filled_within oids es) ≡ true → is_some (slot_at all k).row ≡ true) → is_some (slot_at all k).row ≡ true
-    here some true same on later = ap (λ (j : List ℕ). is_some (slot_at all j).row) (same refl) ∙ ap (λ (s : Slot). is_some s.row) at.0 ∙ some
+    here some true same on later = ap (λ (j : List ℕ). is_some (slot_at all j).row) (same refl) ∙ ap (λ (s : StoredPlace). is_some s.row) at.0 ∙ some
     here some false same on later = later on
 
     by_test : (a : Bool) → (is_some e.1.row && is_within oids e.0) ≡ a → is_among k (cond a (e.0 ∷ filled_within oids es) (filled_within oids es)) ≡ true →
@@ -140,10 +140,10 @@ pub taken_all : (top : ℕ) (oids : List ℕ) (es : Entries) (k : List ℕ) → 
     taken_at top (filled_within oids es) k (slot_at es k) ≡ cond (is_within oids k) (emptied_slot (Some top) (slot_at es k)) (slot_at es k)
 taken_all top oids es k at = taken_is top (filled_within oids es) k (slot_at es k) ∙ by_test (is_within oids k) refl
   where
-    s : Slot
+    s : StoredPlace
     s = slot_at es k
 
-    gone : Slot
+    gone : StoredPlace
     gone = slot None (Some top)
 
     by_row : (a : Bool) → is_some s.row ≡ a → is_within oids k ≡ true → cond (is_among k (filled_within oids es)) gone s ≡ cond a gone s
@@ -162,13 +162,13 @@ taken_all top oids es k at = taken_is top (filled_within oids es) k (slot_at es 
 
 -- STEP BY STEP
 
-pub taken_next : (top : ℕ) (places : List (List ℕ)) (i : ℕ) (p : List ℕ) (now next : Entries) (k : List ℕ) (total : Slot) → drop i places ≡ p ∷ drop (i + 1) places →
+pub taken_next : (top : ℕ) (places : List (List ℕ)) (i : ℕ) (p : List ℕ) (now next : Entries) (k : List ℕ) (total : StoredPlace) → drop i places ≡ p ∷ drop (i + 1) places →
     next ≡ slots_with p (slot None (Some top)) now → taken_at top (drop i places) k (slot_at now k) ≡ total → taken_at top (drop (i + 1) places) k (slot_at next k) ≡ total
 taken_next top places i p now next k total left made so_far =
     ap (taken_at top (drop (i + 1) places) k) (ap (λ (es : Entries). slot_at es k) made ∙ slot_put p (slot None (Some top)) now k)
     ∙ ap (λ (ps : List (List ℕ)). taken_at top ps k (slot_at now k)) (sym left) ∙ so_far
 
-pub held_next : (top : ℕ) (oids : List ℕ) (i oid : ℕ) (now next : Entries) (k : List ℕ) (total : Slot) → drop i oids ≡ oid ∷ drop (i + 1) oids → next ≡ slots_with (table_place oid) (slot None (Some top)) now →
+pub held_next : (top : ℕ) (oids : List ℕ) (i oid : ℕ) (now next : Entries) (k : List ℕ) (total : StoredPlace) → drop i oids ≡ oid ∷ drop (i + 1) oids → next ≡ slots_with (table_place oid) (slot None (Some top)) now →
     put_at (Some top) (all_emptied (drop i oids)) k (slot_at now k) ≡ total → put_at (Some top) (all_emptied (drop (i + 1) oids)) k (slot_at next k) ≡ total
 held_next top oids i oid now next k total left made so_far =
     ap (put_at (Some top) (all_emptied (drop (i + 1) oids)) k) (ap (λ (es : Entries). slot_at es k) made ∙ slot_put (table_place oid) (slot None (Some top)) now k)
@@ -179,7 +179,7 @@ held_next top oids i oid now next k total left made so_far =
 pub noted_none : (oids : List ℕ) (es : Entries) → AreNoted oids es es []
 noted_none oids es = record { restore = λ k. refl; undoable = tt; within = tt; short = λ all. all }
 
-pub noted_next : (oids : List ℕ) (start now next : Entries) (undos more : List Undo) (p : List ℕ) (v : Slot) → is_used v ≡ true → IsOf oids start p → next ≡ slots_with p v now →
+pub noted_next : (oids : List ℕ) (start now next : Entries) (undos more : List Undo) (p : List ℕ) (v : StoredPlace) → is_used v ≡ true → IsOf oids start p → next ≡ slots_with p v now →
     more ≡ undos ++ record { key = p; before = slot_at now p } ∷ [] → AreNoted oids start now undos → AreNoted oids start next more
 noted_next oids start now next undos more p v used here made noted h =
     let P : Entries → List Undo → Type 0 = AreNoted oids start in
@@ -194,7 +194,7 @@ noted_next oids start now next undos more p v used here made noted h =
     u = record { key = p; before = slot_at now p }
 
     by_place : (k : List ℕ) → cond (same_key k p) (slot_at now p) (slot_at (slots_with p v now) k) ≡ slot_at now k
-    by_place k = ap (λ (s : Slot). cond (same_key k p) (slot_at now p) s) (slot_put p v now k) ∙ by_test (same_key k p) (keys_same k p)
+    by_place k = ap (λ (s : StoredPlace). cond (same_key k p) (slot_at now p) s) (slot_put p v now k) ∙ by_test (same_key k p) (keys_same k p)
       where
         by_test : (a : Bool) → (a ≡ true → k ≡ p) → cond a (slot_at now p) (cond a v (slot_at now k)) ≡ slot_at now k
         by_test true same = ap (slot_at now) (sym (same refl))

@@ -3,8 +3,8 @@
 use Rattle.std.specs.Prelude.{◌≡◌, ℕ, ◌≤◌, ◌==◌, ◌∷◌, ◌++◌, [], Bool, true, false, ◌&&◌, ◌||◌, is_some, List, length, None, Some, if◌then◌else◌}
 use Rattle.std.specs.List.{AllByRecursion}
 use Rattle.store.specs.declared.places.key.TheConstants.{MAX_KEY_LENGTH}
-use Rattle.store.specs.declared.places.slot.Slot.{Slot}
-use Rattle.store.specs.declared.places.slot.Undo.{Undo}
+use Rattle.store.specs.declared.places.stored_place.StoredPlace.{StoredPlace}
+use Rattle.store.specs.declared.places.stored_place.Undo.{Undo}
 use Rattle.tables.specs.declared.changes.change.Change.{Change}
 use Rattle.store.specs.Slots.{same_key, Entries, slot_at, undone_at, CanUndo}
 use Rattle.store.specs.History.{change_made, is_other, is_within}
@@ -26,11 +26,11 @@ filled_within oids (e ∷ slots) =
     if is_some e.1.row && is_within oids e.0 then e.0 ∷ filled_within oids slots else filled_within oids slots
 
 -- the slot at a place once a transaction has taken the rows at these places away, and once it has emptied tables
-abbrev pub taken_at : ℕ → List (List ℕ) → List ℕ → Slot → Slot
+abbrev pub taken_at : ℕ → List (List ℕ) → List ℕ → StoredPlace → StoredPlace
 taken_at top [] place slot = slot
 taken_at top (p ∷ places) place slot = taken_at top places place (if same_key place p then record { row = None; owner = Some top } else slot)
 
-abbrev pub emptied_at : ℕ → List ℕ → List ℕ → Slot → Slot
+abbrev pub emptied_at : ℕ → List ℕ → List ℕ → StoredPlace → StoredPlace
 emptied_at top oids place slot = put_at (Some top) (all_emptied oids) place (if is_within oids place then emptied_slot (Some top) slot else slot)
 
 -- A place of these tables. It is short, if those that were there are.

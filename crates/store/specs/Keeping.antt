@@ -4,8 +4,8 @@ use Rattle.std.specs.Prelude.{◌≡◌, ℕ, ◌≤◌, ◌==◌, ◌∷◌, �
 use Rattle.std.specs.List.{list_any, AllByRecursion}
 use Rattle.std.specs.Map.{lookup}
 use Rattle.store.specs.declared.places.key.TheConstants.{MAX_KEY_LENGTH}
-use Rattle.store.specs.declared.places.slot.Slot.{Slot}
-use Rattle.store.specs.declared.places.slot.Undo.{Undo}
+use Rattle.store.specs.declared.places.stored_place.StoredPlace.{StoredPlace}
+use Rattle.store.specs.declared.places.stored_place.Undo.{Undo}
 use Rattle.tables.specs.declared.kinds.Value.{Value}
 use Rattle.tables.specs.declared.table.Table.{Table}
 use Rattle.tables.specs.declared.changes.change.Change.{Change}
@@ -50,7 +50,7 @@ puts_of tables (changes.Delete oid old) = (row_place tables oid old, None) ∷ [
 puts_of tables (changes.Truncate oids) = all_emptied oids
 puts_of tables (changes.Message message) = []
 
-abbrev pub put_at : Option ℕ → List Put → List ℕ → Slot → Slot
+abbrev pub put_at : Option ℕ → List Put → List ℕ → StoredPlace → StoredPlace
 put_at top [] place slot = slot
 put_at top (p ∷ ps) place slot = put_at top ps place (if same_key place p.0 then record { row = p.1; owner = top } else slot)
 
@@ -65,23 +65,23 @@ noted_of top (p ∷ ps) slots =
     record { key = p.0; before = slot_at slots p.0 } ∷ noted_of top ps (slots_with p.0 (record { row = p.1; owner = top }) slots)
 
 -- a row that is taken away is held; where none stands nothing changes
-abbrev pub emptied_slot : Option ℕ → Slot → Slot
+abbrev pub emptied_slot : Option ℕ → StoredPlace → StoredPlace
 emptied_slot top slot = if is_some slot.row then record { row = None; owner = top } else slot
 
-abbrev pub slot_after_emptying : Option ℕ → Change → List ℕ → Slot → Slot
+abbrev pub slot_after_emptying : Option ℕ → Change → List ℕ → StoredPlace → StoredPlace
 slot_after_emptying top (changes.Truncate oids) place slot = if is_within oids place then emptied_slot top slot else slot
 slot_after_emptying top change place slot = slot
 
 -- the slot at a place after a change, and after those of a history
-abbrev pub slot_by : List Table → Made → List ℕ → Slot → Slot
+abbrev pub slot_by : List Table → Made → List ℕ → StoredPlace → StoredPlace
 slot_by tables m place slot = put_at m.top (puts_of tables m.change) place (slot_after_emptying m.top m.change place slot)
 
-abbrev pub slot_from : List Table → List Made → List ℕ → Slot → Slot
+abbrev pub slot_from : List Table → List Made → List ℕ → StoredPlace → StoredPlace
 slot_from tables [] place slot = slot
 slot_from tables (m ∷ ms) place slot = slot_from tables ms place (slot_by tables m place slot)
 
 -- the slot at a place once a transaction has ended
-abbrev pub slot_after_end : ℕ → Slot → Slot
+abbrev pub slot_after_end : ℕ → StoredPlace → StoredPlace
 slot_after_end top slot = record slot { owner = owner_after_end top slot.owner }
 
 -- whether something was noted of a place
@@ -105,7 +105,7 @@ touches tables change place = is_put place (puts_of tables change) || is_emptied
 -- JOURNALS
 
 -- undoing a change leaves what stood before it, takes no memory, and concerns its places alone
-pub record IsUndo (tables : List Table) (m : Made) (before : List ℕ → Slot) (undos : List Undo) : Type 0 where
+pub record IsUndo (tables : List Table) (m : Made) (before : List ℕ → StoredPlace) (undos : List Undo) : Type 0 where
   pub restores : (place : List ℕ) → undone_at undos place (slot_by tables m place (before place)) ≡ before place
   pub undoable : CanUndo undos (λ place. slot_by tables m place (before place))
   pub touched : AllByRecursion (λ u. touches tables m.change u.key ≡ true) undos
@@ -116,7 +116,7 @@ OwnFirst First Rest true [] = ⊥
 OwnFirst First Rest true (undos ∷ notes) = First undos × Rest notes
 
 -- the journal has one entry for each change of the transaction, in order
-abbrev pub AreNotes : List Table → ℕ → List Made → (List ℕ → Slot) → List (List Undo) → Type 0
+abbrev pub AreNotes : List Table → ℕ → List Made → (List ℕ → StoredPlace) → List (List Undo) → Type 0
 AreNotes tables top [] before notes = notes ≡ []
 AreNotes tables top (m ∷ ms) before notes =
     OwnFirst (IsUndo tables m before) (AreNotes tables top ms (λ place. slot_by tables m place (before place))) (is_top top m.top) notes
@@ -135,7 +135,7 @@ AreApart tables (m ∷ ms) = AllByRecursion (KeepsOff tables m) ms × AreApart t
 
 -- THE STORE
 
-abbrev pub nothing_at : List ℕ → Slot
+abbrev pub nothing_at : List ℕ → StoredPlace
 nothing_at place = vacant
 
 pub record Keeps (s : StoreState) (history : List Made) : Type 0 where

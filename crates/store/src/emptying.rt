@@ -6,9 +6,9 @@ ghost use Rattle.store.specs.Emptying.{AreNoted, IsOf, emptied_at, taken_at};
 ghost use Rattle.store.specs.Keeping.{SameSlots, all_emptied, put_at};
 ghost use Rattle.store.specs.Slots.{Entries, slot_at};
 
-use crate::places::key::Place;
-use crate::places::slot::Undo;
+use crate::places::key::PlaceKey;
 use crate::places::slots::Slots;
+use crate::places::stored_place::Undo;
 use pqformat::Items;
 use std::alloc::{AllocError, Global};
 
@@ -94,7 +94,7 @@ impl Slots {
             AreNoted oids.now start self.new undos.new.items }
     {
         for oid in oids {
-            let table = Place::of_table(*oid);
+            let table = PlaceKey::of_table(*oid);
             self.note(undos, top, table.as_bytes(), None)?;
         }
         Ok(())

@@ -7,8 +7,8 @@ ghost use Rattle.store.specs.Keeping.{Journals as Kept, journal_of};
 ghost use Rattle.store.specs.Snapshots.{Settling};
 ghost use Rattle.tables.specs.declared.table.Table.{Table};
 
-use crate::places::slot::Undo;
 use crate::places::slots::Slots;
+use crate::places::stored_place::Undo;
 use indexmap::IndexMap;
 use pqformat::Items;
 use std::alloc::{AllocError, Global};
@@ -22,7 +22,7 @@ pub struct Journal {
 
 impl Model for Journal {
     ghost use Rattle.std.specs.Prelude.{List};
-    ghost use Rattle.store.specs.declared.places.slot.Undo.{Undo as Noted};
+    ghost use Rattle.store.specs.declared.places.stored_place.Undo.{Undo as Noted};
 
     ghost Value = { List (List Noted) };
 
@@ -145,7 +145,7 @@ impl Journals {
     }
 
     /// Takes out the last change of a transaction, if it is after the first `mark`.
-    pub fn pop_behind(&mut self, top: u32, mark: usize) -> Option<Items<Undo>>
+    pub fn pop_after(&mut self, top: u32, mark: usize) -> Option<Items<Undo>>
         ensures behind { MatchOption result (length (journal_of top self.old) ≤ mark)
             (λ _. mark < length (journal_of top self.old)) }
         ensures last { MatchOption result (journal_of top self.new ≡ journal_of top self.old)

@@ -9,14 +9,14 @@ ghost use Rattle.store.specs.Rows.{key_of, key_text};
 ghost use Rattle.store.specs.Slots.{same_key, slot_at};
 ghost use Rattle.tables.specs.Tables.{FitsRow, FitsChange, table_of};
 
-use crate::places::key::Place;
+use crate::places::key::PlaceKey;
 use crate::store::Store;
 use crate::store_fault::StoreFault;
 use tables::{Change, MAX_TRUNCATED, Row, repeats};
 
 impl Store {
     /// The place of a row that may be inserted. Refused as `Store::insert`, but for `Memory`.
-    pub(crate) fn judge_insert(&self, top: u32, oid: u32, row: &Row) -> Result<Place, StoreFault>
+    pub(crate) fn judge_insert(&self, top: u32, oid: u32, row: &Row) -> Result<PlaceKey, StoreFault>
         ensures refused { RefusedExactly
             (insert_fault self.now.tables oid row.now
             (key_held self.now top (key_of self.now.tables oid row.now))
@@ -32,7 +32,7 @@ impl Store {
         if row.coded_len().is_none() {
             return Err(StoreFault::TooLarge);
         }
-        let place = Place::of_row(oid, table.columns.as_slice(), row);
+        let place = PlaceKey::of_row(oid, table.columns.as_slice(), row);
         if self.is_held(top, oid, &place) {
             return Err(StoreFault::KeyHeld);
         }
@@ -49,7 +49,7 @@ impl Store {
         oid: u32,
         key: &Row,
         row: &Row,
-    ) -> Result<(Place, Place), StoreFault>
+    ) -> Result<(PlaceKey, PlaceKey), StoreFault>
         ensures refused { AreShort self.now.slots →
             RefusedExactly
             (update_fault self.now.tables (record { oid = oid; values = key.now }) row.now
@@ -77,7 +77,7 @@ impl Store {
                 if row.coded_len().is_none() {
                     return Err(StoreFault::TooLarge);
                 }
-                let to = Place::of_row(oid, table.columns.as_slice(), row);
+                let to = PlaceKey::of_row(oid, table.columns.as_slice(), row);
                 self.judge_keys(top, oid, key, to)
             }
             None => Err(StoreFault::UnknownTable),
@@ -90,8 +90,8 @@ impl Store {
         top: u32,
         oid: u32,
         key: &Row,
-        to: Place,
-    ) -> Result<(Place, Place), StoreFault>
+        to: PlaceKey,
+    ) -> Result<(PlaceKey, PlaceKey), StoreFault>
         ensures refused { AreShort self.now.slots →
             RefusedExactly (keys_fault self.now top (record { oid = oid; values = key.now }) to)
             result }
@@ -100,7 +100,7 @@ impl Store {
             × (places.1 ≡ to)) }
     {
         let to_is_held = self.is_held(top, oid, &to);
-        match Place::of_key(oid, key) {
+        match PlaceKey::of_key(oid, key) {
             Some(from) => {
                 if self.is_held(top, oid, &from) || to_is_held {
                     return Err(StoreFault::KeyHeld);
@@ -117,7 +117,7 @@ impl Store {
     }
 
     /// The places of a row that is there, and of one that is not, unless it is the same.
-    fn judge_places(&self, from: Place, to: Place) -> Result<(Place, Place), StoreFault>
+    fn judge_places(&self, from: PlaceKey, to: PlaceKey) -> Result<(PlaceKey, PlaceKey), StoreFault>
         ensures refused { RefusedExactly (places_fault self.now from to) result }
         ensures places { IfOk result (λ places. (places.0 ≡ from) × (places.1 ≡ to)) }
     {
@@ -131,7 +131,7 @@ impl Store {
     }
 
     /// The place of a row that may be deleted. Refused as `Store::delete`, but for `Memory`.
-    pub(crate) fn judge_delete(&self, top: u32, oid: u32, key: &Row) -> Result<Place, StoreFault>
+    pub(crate) fn judge_delete(&self, top: u32, oid: u32, key: &Row) -> Result<PlaceKey, StoreFault>
         ensures refused { AreShort self.now.slots →
             RefusedExactly
             (delete_fault self.now.tables (record { oid = oid; values = key.now })
@@ -181,7 +181,7 @@ impl Store {
     }
 
     /// The place of a key at which a row stands that no other transaction holds.
-    fn judge_key(&self, top: u32, oid: u32, key: &Row) -> Result<Place, StoreFault>
+    fn judge_key(&self, top: u32, oid: u32, key: &Row) -> Result<PlaceKey, StoreFault>
         ensures refused { AreShort self.now.slots →
             RefusedExactly
             (unless (key_held self.now top (record { oid = oid; values = key.now }))
@@ -193,7 +193,7 @@ impl Store {
         ensures place { IfOk result
             (λ place. place ≡ key_text (record { oid = oid; values = key.now })) }
     {
-        match Place::of_key(oid, key) {
+        match PlaceKey::of_key(oid, key) {
             Some(place) => {
                 if self.is_held(top, oid, &place) {
                     return Err(StoreFault::KeyHeld);
@@ -213,7 +213,7 @@ impl Store {
             ≡ (if is_other top (slot_at self.now.slots (table_place oid)).owner
             then StoreFault.KeyHeld else StoreFault.NoSuchRow) }
     {
-        if self.is_others(top, &Place::of_table(oid)) {
+        if self.is_others(top, &PlaceKey::of_table(oid)) {
             StoreFault::KeyHeld
         } else {
             StoreFault::NoSuchRow
@@ -221,16 +221,16 @@ impl Store {
     }
 
     /// Whether another transaction holds a place, or its table.
-    fn is_held(&self, top: u32, oid: u32, place: &Place) -> bool
+    fn is_held(&self, top: u32, oid: u32, place: &PlaceKey) -> bool
         ensures { result
             ≡ (is_other top (slot_at self.now.slots (table_place oid)).owner
             || is_other top (slot_at self.now.slots place.now).owner) }
     {
-        let table = Place::of_table(oid);
+        let table = PlaceKey::of_table(oid);
         self.is_others(top, &table) || self.is_others(top, place)
     }
 
-    fn is_others(&self, top: u32, place: &Place) -> bool
+    fn is_others(&self, top: u32, place: &PlaceKey) -> bool
         ensures { result ≡ is_other top (slot_at self.now.slots place.now).owner }
     {
         match self.slots.owner(place.as_bytes()) {

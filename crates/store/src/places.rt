@@ -1,5 +1,5 @@
 //! The places of rows, and how they are found.
 
 pub(crate) mod key;
-pub(crate) mod slot;
 pub(crate) mod slots;
+pub(crate) mod stored_place;

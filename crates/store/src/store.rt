@@ -12,9 +12,9 @@ ghost use Rattle.tables.specs.Spelling.{IsShort};
 ghost use Rattle.tables.specs.Tables.{FitsRow, FitsChange};
 
 use crate::journals::Journals;
-use crate::places::key::{MAX_KEY_LENGTH, Place};
-use crate::places::slot::Undo;
+use crate::places::key::{MAX_KEY_LENGTH, PlaceKey};
 use crate::places::slots::Slots;
+use crate::places::stored_place::Undo;
 use crate::store_fault::StoreFault;
 use catalog::Catalog;
 use pqformat::Items;
@@ -69,7 +69,7 @@ impl Store {
             option_copied result
             ≡ rows_after self.now.tables history (record { oid = oid; values = key.now }) }
     {
-        match Place::of_key(oid, key) {
+        match PlaceKey::of_key(oid, key) {
             Some(place) => self.slots.row(place.as_bytes()),
             None => None,
         }
@@ -88,7 +88,7 @@ impl Store {
         ensures keeps { (history : List Made) → Keeps self.old history →
             Keeps self.new (history_after_rollback top mark history) }
     {
-        while let Some(undos) = self.journals.pop_behind(top, mark) {
+        while let Some(undos) = self.journals.pop_after(top, mark) {
             self.slots.undo(undos);
         }
     }
@@ -129,7 +129,7 @@ impl Store {
         &mut self,
         top: u32,
         oid: u32,
-        place: &Place,
+        place: &PlaceKey,
         row: Row,
     ) -> Result<Change, StoreFault>
         requires { length place.now ≤ MAX_KEY_LENGTH }
@@ -178,8 +178,8 @@ impl Store {
         &mut self,
         top: u32,
         oid: u32,
-        from: &Place,
-        to: &Place,
+        from: &PlaceKey,
+        to: &PlaceKey,
         row: Row,
     ) -> Result<Change, StoreFault>
         requires from { length from.now ≤ MAX_KEY_LENGTH }
@@ -227,7 +227,7 @@ impl Store {
         }
     }
 
-    fn delete_at(&mut self, top: u32, oid: u32, place: &Place) -> Result<Change, StoreFault>
+    fn delete_at(&mut self, top: u32, oid: u32, place: &PlaceKey) -> Result<Change, StoreFault>
         requires { length place.now ≤ MAX_KEY_LENGTH }
         ensures change { IfOk result (λ change. DeletesAt self.old oid place.now change) }
         ensures ok { OnOk result (Makes top ((place.now, None) ∷ []) self.old self.new) }
@@ -278,7 +278,7 @@ impl Store {
     }
 
     /// A copy of the row at a place.
-    fn old_row(&self, place: &Place) -> Result<Row, StoreFault>
+    fn old_row(&self, place: &PlaceKey) -> Result<Row, StoreFault>
         ensures ok { IfOk result (λ row. (slot_at self.now.slots place.now).row ≡ Some row) }
         ensures err { IfErr result
             (λ fault. IsTrue (is_some (slot_at self.now.slots place.now).row) →
@@ -291,7 +291,7 @@ impl Store {
     }
 
     /// Puts a row, or none, for a transaction, and notes it. Without memory the same stands everywhere.
-    fn put_one(&mut self, top: u32, place: &Place, row: Option<Row>) -> Result<(), AllocError>
+    fn put_one(&mut self, top: u32, place: &PlaceKey, row: Option<Row>) -> Result<(), AllocError>
         requires { length place.now ≤ MAX_KEY_LENGTH }
         ensures ok { OnOk result (Makes top ((place.now, row) ∷ []) self.old self.new) }
         ensures err { OnErr result (IsSame self.old self.new) }
@@ -301,7 +301,13 @@ impl Store {
     }
 
     /// Takes a row away and puts one, for a transaction, and notes it. Without memory the same stands everywhere.
-    fn put_two(&mut self, top: u32, from: &Place, to: &Place, row: Row) -> Result<(), AllocError>
+    fn put_two(
+        &mut self,
+        top: u32,
+        from: &PlaceKey,
+        to: &PlaceKey,
+        row: Row,
+    ) -> Result<(), AllocError>
         requires from { length from.now ≤ MAX_KEY_LENGTH }
         requires to { length to.now ≤ MAX_KEY_LENGTH }
         ensures ok { OnOk result

@@ -1,7 +1,7 @@
 //! Following over lost connections.
 
 use crate::fault::Fault;
-use crate::journal::Journal;
+use crate::kept_output::KeptOutput;
 use crate::printout::Printout;
 use follower::{
     FollowFault, Options, Output, Pauses, ResumePoint, Subscription, copy_rows, resume,
@@ -35,7 +35,7 @@ pub fn keep_printing<
     keep_following(rt, net, address, options, &mut subscription, &mut output)
 }
 
-/// Follows into a file, from where it ends. What it holds counts. Faults as of `Journal::open` and `Journal::system`, then as of
+/// Follows into a file, from where it ends. What it holds counts. Faults as of `KeptOutput::open` and `KeptOutput::system`, then as of
 /// `keep_printing`.
 pub fn keep_in<N: Net<Listener = TcpListener, Stream = TcpStream> + Wait + Clock + RandomSource>(
     rt: &HostRuntime,
@@ -45,7 +45,7 @@ pub fn keep_in<N: Net<Listener = TcpListener, Stream = TcpStream> + Wait + Clock
     copies: bool,
     path: &str,
 ) -> Result<(), Fault> {
-    let (mut journal, kept) = Journal::open(rt, rt.alloc(), path, options.form)?;
+    let (mut journal, kept) = KeptOutput::open(rt, rt.alloc(), path, options.form)?;
     let system = journal.system(&kept)?;
     let mut subscription = Subscription::behind(rt.alloc(), options, &kept, system);
     if copies && kept.transactions == 0 {

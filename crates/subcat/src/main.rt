@@ -2,16 +2,16 @@
 //! ADDR SLOT POSITION PUBLICATIONS COUNT` follows a slot of a publisher, and prints each message of its stream, or, over lost
 //! connections, each transaction once.
 //!
-//! `command.rt` reads the command line, `printout.rt` follows once, `keeping.rt` follows for good, with a `Journal` as its
+//! `command.rt` reads the command line, `printout.rt` follows once, `keeping.rt` follows for good, with a `KeptOutput` as its
 //! output, `password.rt` finds a password.
 //!
-//! Read `main.rt`, `keeping.rt`, `journal.rt`. One contract is used: that of `follower::resume`, over an output that is a file.
+//! Read `main.rt`, `keeping.rt`, `kept_output.rt`. One contract is used: that of `follower::resume`, over an output that is a file.
 #![tactic(auto)]
 
 mod command;
 mod fault;
-mod journal;
 mod keeping;
+mod kept_output;
 mod password;
 mod password_file;
 mod printout;
@@ -23,7 +23,7 @@ use fault::Fault;
 use follower::{Form, Options, follow};
 use keeping::{keep_in, keep_printing};
 use password::{password_of, user_of};
-use password_file::Place;
+use password_file::PassfileHost;
 use printout::Printout;
 use replcmd::parse_position;
 use std::alloc::Global;
@@ -55,7 +55,7 @@ fn run_called<N: Net<Listener = TcpListener, Stream = TcpStream> + Wait + Clock 
     let words = words_of(rt.alloc(), arguments)?;
     let address = address_of(words.address)?;
     let user = user_of(rt, words.user)?;
-    let place = Place::of(words.address, user.as_str());
+    let place = PassfileHost::of(words.address, user.as_str());
     let password = password_of(rt, words.password_file, &place)?;
     let options = options_of(
         &words,

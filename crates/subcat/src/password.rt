@@ -1,6 +1,6 @@
 //! Who connects, and which password is proved: that of the environment, or one of a file.
 
-use crate::password_file::{Place, password_at};
+use crate::password_file::{PassfileHost, password_at};
 use std::alloc::{AllocError, Global};
 use std::env::{VarError, var};
 use std::fs::{File, Metadata, metadata};
@@ -70,7 +70,7 @@ pub fn user_of(rt: &HostRuntime, told: Option<&str>) -> Result<String, PasswordF
 pub fn password_of(
     rt: &HostRuntime,
     told: Option<&str>,
-    place: &Place<'_>,
+    place: &PassfileHost<'_>,
 ) -> Result<Option<Vec<u8>>, PasswordFault> {
     if let Some(password) = variable(rt, PASSWORD)? {
         return Ok(Some(password.into_bytes()));
@@ -93,7 +93,10 @@ fn variable(rt: &HostRuntime, name: &'static str) -> Result<Option<String>, Pass
 
 /// As PostgreSQL's clients have it (PostgreSQL 15, 34.16), a usual file that can't be read holds nothing, and one that may not be
 /// used is told and left alone.
-fn in_usual_file(rt: &HostRuntime, place: &Place<'_>) -> Result<Option<Vec<u8>>, PasswordFault> {
+fn in_usual_file(
+    rt: &HostRuntime,
+    place: &PassfileHost<'_>,
+) -> Result<Option<Vec<u8>>, PasswordFault> {
     let Some(path) = usual_path(rt)? else {
         return Ok(None);
     };
@@ -122,7 +125,7 @@ fn in_file(
     rt: &HostRuntime,
     alloc: Global,
     path: &str,
-    place: &Place<'_>,
+    place: &PassfileHost<'_>,
 ) -> Result<Option<Vec<u8>>, PasswordFault> {
     // It is judged before it is opened, since that may wait where it is no plain file.
     judge(&metadata(rt, path).map_err(PasswordFault::Unread)?)?;

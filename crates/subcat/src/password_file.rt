@@ -4,17 +4,17 @@ use std::alloc::{AllocError, Global};
 
 /// Who connects where, as a line names it. The database of a user has the same name.
 #[derive(Clone, Copy)]
-pub struct Place<'a> {
+pub struct PassfileHost<'a> {
     host: &'a [u8],
     port: &'a [u8],
     user: &'a [u8],
 }
 
-impl<'a> Place<'a> {
+impl<'a> PassfileHost<'a> {
     /// That of an address and a port, for this user.
     pub fn of(address: &'a str, user: &'a str) -> Self {
         let (host, port) = address.rsplit_once(':').unwrap_or((address, ""));
-        Place {
+        PassfileHost {
             host: without_brackets(host).as_bytes(),
             port: port.as_bytes(),
             user: user.as_bytes(),
@@ -33,7 +33,7 @@ fn without_brackets(host: &str) -> &str {
 pub fn password_at(
     alloc: Global,
     text: &[u8],
-    place: &Place<'_>,
+    place: &PassfileHost<'_>,
 ) -> Result<Option<Vec<u8>>, AllocError> {
     for line in text.split(|b| *b == b'\n') {
         if let Some(escaped) = fitting(without_return(line), place) {
@@ -55,7 +55,7 @@ fn without_return(line: &[u8]) -> &[u8] {
 }
 
 /// The password of a line that fits, as it is written there. One that begins with `#` is none.
-fn fitting<'a>(line: &'a [u8], place: &Place<'_>) -> Option<&'a [u8]> {
+fn fitting<'a>(line: &'a [u8], place: &PassfileHost<'_>) -> Option<&'a [u8]> {
     if line.first() == Some(&b'#') {
         return None;
     }

@@ -30,14 +30,14 @@ front [] (suc count) row i d fits low = absurd (omega arith)
 front (v ∷ room) (suc count) row zero d fits low = refl
 front (v ∷ room) (suc count) row (suc i) d fits low = front room count row i d (omega arith) (omega arith)
 
-behind_by : (room : List ValueRef) (count : ℕ) (row : List Value) (i j : ℕ) → count ≤ length room → i ≡ count + j → slice_get (map value_of (take count room) ++ row) i ≡ slice_get row j
-behind_by room zero row i j fits e = ap (slice_get row) (let same : i ≡ j = omega arith in same)
-behind_by [] (suc count) row i j fits e = absurd (omega arith)
-behind_by (v ∷ room) (suc count) row zero j fits e = absurd (omega arith)
-behind_by (v ∷ room) (suc count) row (suc i) j fits e = behind_by room count row i j (omega arith) (omega arith)
+after_by : (room : List ValueRef) (count : ℕ) (row : List Value) (i j : ℕ) → count ≤ length room → i ≡ count + j → slice_get (map value_of (take count room) ++ row) i ≡ slice_get row j
+after_by room zero row i j fits e = ap (slice_get row) (let same : i ≡ j = omega arith in same)
+after_by [] (suc count) row i j fits e = absurd (omega arith)
+after_by (v ∷ room) (suc count) row zero j fits e = absurd (omega arith)
+after_by (v ∷ room) (suc count) row (suc i) j fits e = after_by room count row i j (omega arith) (omega arith)
 
 pub behind : (room : List ValueRef) (count : ℕ) (row : List Value) (i : ℕ) → count ≤ length room → count ≤ i → slice_get (map value_of (take count room) ++ row) i ≡ slice_get row (i - count)
-behind room count row i fits low = behind_by room count row i (i - count) fits (omega arith)
+behind room count row i fits low = after_by room count row i (i - count) fits (omega arith)
 
 pub ruleset lengths = (length_lent)
 

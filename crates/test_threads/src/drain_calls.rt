@@ -1,7 +1,7 @@
 //! A sender drained byte by byte.
 
 use crate::fixtures::log_fixture::{CHUNKS, commit_under_lock, sender_of_p};
-use crate::fixtures::work::{Work, do_work};
+use crate::fixtures::work::{LogTask, do_work};
 use crate::turn_calls::{FIRST_BLOCK, LENGTH};
 use shared_log::{LogName, LogReader};
 use std::alloc::{AllocError, Global};
@@ -16,7 +16,7 @@ const WITH_CHANGE: usize = 196;
 
 #[test]
 fn bytes_one_by_one(rt: HostRuntime) -> Result<(), Fail> {
-    do_work(&rt, rt.alloc(), Work::DrainByBytes)
+    do_work(&rt, rt.alloc(), LogTask::DrainByBytes)
 }
 
 /// A transaction with one insert, of which each byte is drained by a call of its own.

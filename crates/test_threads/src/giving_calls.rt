@@ -1,7 +1,7 @@
 //! A log that has more records than may lie in memory at once, since they are given back.
 
 use crate::fixtures::log_fixture::commit_under_lock;
-use crate::fixtures::work::{Work, do_work};
+use crate::fixtures::work::{LogTask, do_work};
 use shared_log::{LogName, LogReader, ReadFault};
 use std::alloc::Global;
 use std::process::Abort;
@@ -15,7 +15,7 @@ const TRANSACTIONS: i32 = 4_000;
 
 #[test]
 fn more_records_than_room(rt: HostRuntime) -> Result<(), Fail> {
-    do_work(&rt, rt.alloc(), Work::GiveBack)
+    do_work(&rt, rt.alloc(), LogTask::GiveBack)
 }
 
 /// All that stands before the last transaction is given back. A reader that was left at the front is told so, and so is a start there;

@@ -14,6 +14,8 @@ mod giving_calls;
 #[cfg(test)]
 mod load_calls;
 #[cfg(test)]
+mod open_transaction;
+#[cfg(test)]
 mod receipt_calls;
 #[cfg(test)]
 mod slot_calls;

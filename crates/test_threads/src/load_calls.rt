@@ -2,7 +2,7 @@
 
 use crate::fixtures::log_fixture::{commit_under_lock, has_commit_of, log_of};
 use crate::fixtures::log_reading::{fetch_more, fetch_rest};
-use crate::fixtures::work::{Work, do_work};
+use crate::fixtures::work::{LogTask, do_work};
 use shared_log::{LogName, LogReader, ReadFault};
 use std::alloc::Global;
 use std::process::Abort;
@@ -24,7 +24,7 @@ const FETCHES: usize = 1_000_000;
 
 #[test]
 fn two_sessions_beside_a_reader(rt: HostRuntime) -> Result<(), Fail> {
-    do_work(&rt, rt.alloc(), Work::Load)
+    do_work(&rt, rt.alloc(), LogTask::Load)
 }
 
 /// Each session has a thread, and so has one reader; the other has the whole log in the end.

@@ -1,7 +1,7 @@
 //! A receipt that is learnt of on another thread than the one that committed.
 
 use crate::fixtures::log_fixture::{commit_elsewhere, has_commit_of};
-use crate::fixtures::work::{Work, do_work};
+use crate::fixtures::work::{LogTask, do_work};
 use shared_log::{LogName, LogReader, ReadFault};
 use std::alloc::Global;
 use std::process::Abort;
@@ -13,7 +13,7 @@ use wal::Record;
 
 #[test]
 fn a_receipt_on_another_thread(rt: HostRuntime) -> Result<(), Fail> {
-    do_work(&rt, rt.alloc(), Work::LearnElsewhere)
+    do_work(&rt, rt.alloc(), LogTask::LearnElsewhere)
 }
 
 /// Commits on one thread, and learns of it on another.

@@ -1,7 +1,7 @@
 //! A snapshot that is opened while a transaction is in progress, and read while others change what it has read and what not.
 
 use crate::fixtures::log_fixture::{ITEM, commit_one, item};
-use crate::fixtures::work::{Work, do_work};
+use crate::fixtures::work::{LogTask, do_work};
 use shared_log::LogName;
 use std::alloc::{AllocError, Global};
 use std::process::Abort;
@@ -15,7 +15,7 @@ const ROWS: i32 = 5;
 
 #[test]
 fn a_snapshot_beside_changes(rt: HostRuntime) -> Result<(), Fail> {
-    do_work(&rt, rt.alloc(), Work::ReadSnapshot)
+    do_work(&rt, rt.alloc(), LogTask::ReadSnapshot)
 }
 
 pub fn read_beside_changes<L: LogName, R: Wait + Abort>(

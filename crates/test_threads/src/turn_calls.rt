@@ -3,7 +3,7 @@
 ghost use Rattle.std.specs.Prelude.{Some};
 
 use crate::fixtures::log_fixture::{TIME, commit_elsewhere, commit_under_lock, sender_of_p};
-use crate::fixtures::work::{Work, do_work};
+use crate::fixtures::work::{LogTask, do_work};
 use shared_log::{LogName, LogReader};
 use std::alloc::{AllocError, Global};
 use std::io;
@@ -57,7 +57,7 @@ const SECOND: Sample = Sample {
 
 #[test]
 fn readers_that_were_told_nothing(rt: HostRuntime) -> Result<(), Fail> {
-    do_work(&rt, rt.alloc(), Work::LookTwice)
+    do_work(&rt, rt.alloc(), LogTask::LookTwice)
 }
 
 /// A transaction on one thread, and what this one gets once the other is joined; and the same once more.
@@ -159,7 +159,7 @@ impl Write for Narrow {
 
 #[test]
 fn writers_that_fail(rt: HostRuntime) -> Result<(), Fail> {
-    do_work(&rt, rt.alloc(), Work::TurnNarrowly)
+    do_work(&rt, rt.alloc(), LogTask::TurnNarrowly)
 }
 
 /// Turns to writers that take no byte of the first block, one, and so on, up to 100 at once or one by one.

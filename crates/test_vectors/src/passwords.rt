@@ -4,8 +4,8 @@ use crate::wording::answer::{bytes_of, tell_fault};
 use anyhow::{Result, bail};
 use pqformat::Items;
 use scram::{
-    Account, Asked, ClientExchange, Exchange, ExchangeFault, Login, Reply, ServerFault, Verifier,
-    hmac_sha256, line_of_user, salted_password,
+    Account, ClientExchange, Exchange, ExchangeFault, Login, ProofRequest, Reply, ServerFault,
+    Verifier, hmac_sha256, line_of_user, salted_password,
 };
 use std::alloc::{AllocError, Global};
 
@@ -105,7 +105,7 @@ pub fn answer_login(alloc: Global, given: &str, answer: &mut String) -> Result<(
     let nonce = Items::new(Vec::from_slice(alloc, nonce.as_bytes())?);
     let account = account_of(alloc, verifier)?;
     answer.push('=')?;
-    let mut login = Login::Offered(Asked { account, nonce });
+    let mut login = Login::Offered(ProofRequest { account, nonce });
     for body in bodies.split('|') {
         let body = bytes_of(alloc, body)?;
         match login.answer(alloc, body.as_slice()) {

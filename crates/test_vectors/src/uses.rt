@@ -6,6 +6,7 @@ ghost use Rattle.std.specs.Prelude.{◌≤◌, IfOk};
 mod chunks;
 mod claims;
 mod connection;
+mod endless;
 mod filters;
 mod items;
 mod own_log;
@@ -18,12 +19,16 @@ use anyhow::{Context, Error, Result, ensure};
 use chunks::work_on_arena;
 use claims::work_on_slots;
 use connection::hold_conversations;
+use endless::commit_on_and_on;
 use filters::work_on_filters;
 use sending::print_stream;
 use std::alloc::Global;
 use std::io::{Input, Print};
+use std::net::{Net, TcpListener, TcpStream};
+use std::random::RandomSource;
 use std::sync::Wait;
 use std::thread::Threads;
+use std::time::Clock;
 use subscriber::follow_stream;
 use without_memory::call_without_memory;
 
@@ -35,11 +40,19 @@ const USAGE: &str = "usage: test_vectors [USE [then USE]..], where a USE is one 
   filter TURNS filter|hand
   slots slots|words|apart THREADS TURNS
   arena CHUNKS LENGTH TURNS push|copy
+  endless MILLIONS
   without-memory arena|store|slots|log|wire|filter|message made|called";
 
 pub fn use_one<R>(rt: &R, alloc: Global, words: &[String]) -> Result<()>
 where
-    R: Threads + Wait + Input + Print + Sync,
+    R: Net<Listener = TcpListener, Stream = TcpStream>
+        + Threads
+        + Wait
+        + Clock
+        + RandomSource
+        + Input
+        + Print
+        + Sync,
 {
     let [name, words @ ..] = words else {
         return Err(Error::msg(USAGE));
@@ -52,6 +65,7 @@ where
         "filter" => work_on_filters(rt, alloc, words),
         "slots" => work_on_slots(rt, alloc, words),
         "arena" => work_on_arena(alloc, words),
+        "endless" => commit_on_and_on(rt, alloc, words),
         "without-memory" => call_without_memory(rt, alloc, words),
         _ => Err(Error::msg(USAGE)),
     }

@@ -21,7 +21,7 @@ use Rattle.wal.proofs.Places.{chain-IsChain, chain-only}
 use Rattle.txlog.proofs.Progress.{onto, chain-innermost, IsOpen-innermost, xids-top, all_take, in_progress_cut, last_of-take, all_at}
 use Rattle.txlog.proofs.Standing.{standing-commit, standing-abort, standing-undo, standing-change, standing-assign, standing-note, chain-assign}
 use Rattle.txlog.proofs.Histories.{tells_own}
-use Rattle.txlog.proofs.Marks.{behind_agrees, behind_push, behind_filter, behind_all}
+use Rattle.txlog.proofs.Marks.{after_agrees, after_push, after_filter, after_all}
 use Rattle.txlog.proofs.Transitions.{open_at, all_innermost}
 
 -- CHAINS
@@ -120,7 +120,7 @@ kept_mark : (log : List Record) (r : Record) → KeepsChains r.body → (t : ℕ
     IsBehind (is_own log t) (is_under log s.xid) s.mark es → MarkedAt (log ++ r ∷ []) t s
 kept_mark log r keeps t s es stood h =
     subst (λ (l : List Entry). IsBehind (is_own (log ++ r ∷ []) t) (is_under (log ++ r ∷ []) s.xid) s.mark l) (sym stood)
-    (behind_agrees (is_own log t) (is_under log s.xid) (is_own (log ++ r ∷ []) t) (is_under (log ++ r ∷ []) s.xid) s.mark es (each _ same es) h)
+    (after_agrees (is_own log t) (is_under log s.xid) (is_own (log ++ r ∷ []) t) (is_under (log ++ r ∷ []) s.xid) s.mark es (each _ same es) h)
   where
     same : (e : Entry) → (is_own (log ++ r ∷ []) t e ≡ is_own log t e) × (is_under (log ++ r ∷ []) s.xid e ≡ is_under log s.xid e)
     same e = (ap (λ (n : ℕ). n == t) (top-kept log r keeps e.xid), ap (list_any (λ y. s.xid == y)) (chain-append log r e.xid ∙ keeps (chain log) e.xid))
@@ -161,7 +161,7 @@ marked-changed s xid change h marked is =
     let stood : standing_changes (s.log ++ r ∷ []) ≡ standing_changes s.log ++ e ∷ [] = standing-change s.log r.start r.end y change is_open.running is_open.undropped in
     let chained : chain s.log y ≡ onto (xid ∷ []) (xids savepoints) = chain-innermost s.log xid [] (xids savepoints) (chain-unassigned s.log xid running.top) running.nested in
     let pushed : (t : ℕ) (p : Savepoint) → is_under s.log p.xid e ≡ is_own s.log t e → MarkedAt s.log t p → MarkedAt (s.log ++ r ∷ []) t p =
-    λ t p same mark. kept_mark s.log r (λ above x. refl) t p (standing_changes s.log ++ e ∷ []) stood (behind_push (is_own s.log t) (is_under s.log p.xid) p.mark (standing_changes s.log) e same mark) in
+    λ t p same mark. kept_mark s.log r (λ above x. refl) t p (standing_changes s.log ++ e ∷ []) stood (after_push (is_own s.log t) (is_under s.log p.xid) p.mark (standing_changes s.log) e same mark) in
     let of_other : (t : ℕ) (p : Savepoint) → (t == xid) ≡ false → TopAndMark s.log t p → MarkedAt (s.log ++ r ∷ []) t p =
     λ t p other both. pushed t p
     (not_under s.log h.log.good p.xid t xid e both.0 top other ∙ sym (ap (λ (n : ℕ). n == t) top ∙ eqb_comm xid t ∙ other)) both.1 in
@@ -188,12 +188,12 @@ marked-saved s xid h marked is =
     let apart : AllByRecursion (λ (e : Entry). (sub == e.xid) ≡ false) (standing_changes s.log) = all_filter _ (stands s.log) (entries s.log) (changes_named s.log sub unheard) in
     let moved : (t : ℕ) (p : Savepoint) → MarkedAt s.log t p → MarkedAt (s.log ++ r ∷ []) t p =
     λ t p mark. subst (λ (l : List Entry). IsBehind (is_own (s.log ++ r ∷ []) t) (is_under (s.log ++ r ∷ []) p.xid) p.mark l) (sym stood)
-    (behind_agrees (is_own s.log t) (is_under s.log p.xid) (is_own (s.log ++ r ∷ []) t) (is_under (s.log ++ r ∷ []) p.xid) p.mark (standing_changes s.log)
+    (after_agrees (is_own s.log t) (is_under s.log p.xid) (is_own (s.log ++ r ∷ []) t) (is_under (s.log ++ r ∷ []) p.xid) p.mark (standing_changes s.log)
     (all_when _ _ (λ (e : Entry) (other : (sub == e.xid) ≡ false).
     let same : chain (s.log ++ r ∷ []) e.xid ≡ chain s.log e.xid = chain-assign s.log r sub parent e.xid refl other in
     (ap (λ (l : List ℕ). last_of e.xid l == t) same, ap (list_any (λ y. p.xid == y)) same)) (standing_changes s.log) apart) mark) in
     let fresh : MarkedAt s.log xid (next_savepoint xid s) =
-    behind_all xid (made_by s.log) (is_own s.log xid) (is_under s.log sub) (standing_changes s.log) (tells_own s.log xid running.running)
+    after_all xid (made_by s.log) (is_own s.log xid) (is_under s.log sub) (standing_changes s.log) (tells_own s.log xid running.running)
     (all_when _ _ (λ (e : Entry) (other : (sub == e.xid) ≡ false). absent_in_chain s.log sub e.xid unheard other) (standing_changes s.log) apart) in
     all_changed (IsMarked s.log) (IsMarked (s.log ++ r ∷ [])) xid (savepoints ++ next_savepoint xid s ∷ []) s.live h.rising marked
     (λ o mark other. all_when _ _ (moved o.xid) o.savepoints mark)
@@ -228,7 +228,7 @@ marked-rolled_back s xid depth h marked is some enough =
     let cut : (t : ℕ) (p : Savepoint) → ((e : Entry) → is_under s.log sub e ≡ true → is_own s.log t e ≡ true → is_under s.log p.xid e ≡ true) →
     MarkedAt s.log t p → MarkedAt (s.log ++ r ∷ []) t p =
     λ t p keep mark. kept_mark s.log r (λ above x. refl) t p left stood
-    (behind_filter (is_own s.log t) (is_under s.log p.xid) (λ e. not (is_under s.log sub e)) p.mark (standing_changes s.log)
+    (after_filter (is_own s.log t) (is_under s.log p.xid) (λ e. not (is_under s.log sub e)) p.mark (standing_changes s.log)
     (each _ (λ e gone. keep e (true_by_not (is_under s.log sub e) gone)) (standing_changes s.log)) mark) in
     let of_other : (t : ℕ) (p : Savepoint) → (t == xid) ≡ false → TopAndMark s.log t p → MarkedAt (s.log ++ r ∷ []) t p =
     λ t p other both. cut t p (λ e under own.
@@ -260,7 +260,7 @@ marked-abort s xid h marked =
     all_without (IsMarked s.log) (IsMarked (s.log ++ r ∷ [])) xid s.live marked (λ o mark other.
     all_when (MarkedAt s.log o.xid) (MarkedAt (s.log ++ r ∷ []) o.xid)
     (λ p one. kept_mark s.log r (λ above x. refl) o.xid p left (standing-abort s.log r.start r.end xid)
-    (behind_filter (is_own s.log o.xid) (is_under s.log p.xid) (λ e. not (is_own s.log xid e)) p.mark (standing_changes s.log)
+    (after_filter (is_own s.log o.xid) (is_under s.log p.xid) (λ e. not (is_own s.log xid e)) p.mark (standing_changes s.log)
     (each _ (λ e gone own.
     let same : o.xid ≡ xid = sym (eqb-true (top_of s.log e.xid) o.xid own) ∙ eqb-true (top_of s.log e.xid) xid (true_by_not (is_own s.log xid e) gone) in
     absurd (eqb-false o.xid xid other same)) (standing_changes s.log)) one)) o.savepoints mark)

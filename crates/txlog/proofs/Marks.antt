@@ -7,31 +7,31 @@ use Rattle.wal.specs.Log.{Entry}
 use Rattle.txlog.specs.Invariants.{IsBehind}
 
 -- two tests that agree at each element
-pub behind_agrees : (own under own' under' : Entry → Bool) (n : ℕ) (es : List Entry) → AllByRecursion (λ e. (own' e ≡ own e) × (under' e ≡ under e)) es →
+pub after_agrees : (own under own' under' : Entry → Bool) (n : ℕ) (es : List Entry) → AllByRecursion (λ e. (own' e ≡ own e) × (under' e ≡ under e)) es →
     IsBehind own under n es → IsBehind own' under' n es
-behind_agrees own under own' under' n [] same h = h
-behind_agrees own under own' under' zero (e ∷ es) same h = (same.0.1 ∙ h.0 ∙ sym same.0.0, behind_agrees own under own' under' zero es same.1 h.1)
-behind_agrees own under own' under' (suc n) (e ∷ es) same h = (
+after_agrees own under own' under' n [] same h = h
+after_agrees own under own' under' zero (e ∷ es) same h = (same.0.1 ∙ h.0 ∙ sym same.0.0, after_agrees own under own' under' zero es same.1 h.1)
+after_agrees own under own' under' (suc n) (e ∷ es) same h = (
   same.0.1 ∙ h.0,
-  subst (λ (b : Bool). IsBehind own' under' (cond b n (suc n)) es) (sym same.0.0) (behind_agrees own under own' under' (cond (own e) n (suc n)) es same.1 h.1),
+  subst (λ (b : Bool). IsBehind own' under' (cond b n (suc n)) es) (sym same.0.0) (after_agrees own under own' under' (cond (own e) n (suc n)) es same.1 h.1),
 )
 
 -- a change of the transaction under the savepoint, or another's
-pub behind_push : (own under : Entry → Bool) (n : ℕ) (es : List Entry) (e : Entry) → under e ≡ own e → IsBehind own under n es → IsBehind own under n (es ++ e ∷ [])
-behind_push own under n [] e is h = subst (λ (m : ℕ). IsBehind own under m (e ∷ [])) (sym h) (is, refl)
-behind_push own under zero (d ∷ es) e is h = (h.0, behind_push own under zero es e is h.1)
-behind_push own under (suc n) (d ∷ es) e is h = (h.0, behind_push own under (cond (own d) n (suc n)) es e is h.1)
+pub after_push : (own under : Entry → Bool) (n : ℕ) (es : List Entry) (e : Entry) → under e ≡ own e → IsBehind own under n es → IsBehind own under n (es ++ e ∷ [])
+after_push own under n [] e is h = subst (λ (m : ℕ). IsBehind own under m (e ∷ [])) (sym h) (is, refl)
+after_push own under zero (d ∷ es) e is h = (h.0, after_push own under zero es e is h.1)
+after_push own under (suc n) (d ∷ es) e is h = (h.0, after_push own under (cond (own d) n (suc n)) es e is h.1)
 
 -- what is taken out is another's, or under the savepoint
-pub behind_filter : (own under q : Entry → Bool) (n : ℕ) (es : List Entry) → AllByRecursion (λ e. q e ≡ false → own e ≡ true → under e ≡ true) es →
+pub after_filter : (own under q : Entry → Bool) (n : ℕ) (es : List Entry) → AllByRecursion (λ e. q e ≡ false → own e ≡ true → under e ≡ true) es →
     IsBehind own under n es → IsBehind own under n (filter q es)
-behind_filter own under q n [] keep h = h
-behind_filter own under q zero (e ∷ es) keep h = by_test (q e) (behind_filter own under q zero es keep.1 h.1)
+after_filter own under q n [] keep h = h
+after_filter own under q zero (e ∷ es) keep h = by_test (q e) (after_filter own under q zero es keep.1 h.1)
   where
     by_test : (b : Bool) → IsBehind own under zero (filter q es) → IsBehind own under zero (cond b (e ∷ filter q es) (filter q es))
     by_test true rest = (h.0, rest)
     by_test false rest = rest
-behind_filter own under q (suc n) (e ∷ es) keep h = by_test (q e) refl (behind_filter own under q (cond (own e) n (suc n)) es keep.1 h.1)
+after_filter own under q (suc n) (e ∷ es) keep h = by_test (q e) refl (after_filter own under q (cond (own e) n (suc n)) es keep.1 h.1)
   where
     dropped : (c : Bool) → own e ≡ c → q e ≡ false → IsBehind own under (cond c n (suc n)) (filter q es) → IsBehind own under (suc n) (filter q es)
     dropped true is none rest = let never : true ≡ false = sym (keep.0 none is) ∙ h.0 in cc
@@ -46,12 +46,12 @@ abbrev pub Tells : ℕ → (Entry → Made) → (Entry → Bool) → Type 0
 Tells t made_of own = (e : Entry) → is_top t (made_of e).top ≡ own e
 
 -- nothing is under a savepoint that is new
-pub behind_all : (t : ℕ) (made_of : Entry → Made) (own under : Entry → Bool) (es : List Entry) → Tells t made_of own → AllByRecursion (λ e. under e ≡ false) es →
+pub after_all : (t : ℕ) (made_of : Entry → Made) (own under : Entry → Bool) (es : List Entry) → Tells t made_of own → AllByRecursion (λ e. under e ≡ false) es →
     IsBehind own under (count_of t (map made_of es)) es
-behind_all t made_of own under [] tells none = refl
-behind_all t made_of own under (e ∷ es) tells none =
+after_all t made_of own under [] tells none = refl
+after_all t made_of own under (e ∷ es) tells none =
     subst (λ (b : Bool). IsBehind own under (cond b (suc (count_of t (map made_of es))) (count_of t (map made_of es))) (e ∷ es)) (sym (tells e))
-    (by_test (own e) refl (count_of t (map made_of es)) (behind_all t made_of own under es tells none.1))
+    (by_test (own e) refl (count_of t (map made_of es)) (after_all t made_of own under es tells none.1))
   where
     by_test : (b : Bool) → own e ≡ b → (k : ℕ) → IsBehind own under k es → IsBehind own under (cond b (suc k) k) (e ∷ es)
     by_test true is k rest = (none.0, subst (λ (c : Bool). IsBehind own under (cond c k (suc k)) es) (sym is) rest)

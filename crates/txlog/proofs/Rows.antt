@@ -139,8 +139,8 @@ released-live = refl
 interleaved-from_last_commit : restart 0x10000B0 interleaved ≡ 0x1000000
 interleaved-from_last_commit = refl
 
-interleaved-behind_last_commit : restart 0x10000B1 interleaved ≡ 0x10000D0
-interleaved-behind_last_commit = refl
+interleaved-after_last_commit : restart 0x10000B1 interleaved ≡ 0x10000D0
+interleaved-after_last_commit = refl
 
 interleaved-from_end : restart 0x10000D0 interleaved ≡ 0x10000D0
 interleaved-from_end = refl

@@ -2,7 +2,7 @@
 
 ghost use Rattle.std.specs.Prelude.{◌≡◌, IfSome, take};
 ghost use mathlib.Core.List.{IsPrefix};
-ghost use Rattle.shared_log.specs.Fronts.{settled_records};
+ghost use Rattle.shared_log.specs.SeenPrefixes.{settled_records};
 ghost use Rattle.shared_log.specs.Readers.{seen_of};
 ghost use Rattle.txlog.specs.Giving.{GivesBack, kept_place};
 ghost use Rattle.txlog.specs.Invariants.{IsPublisher};

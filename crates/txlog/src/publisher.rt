@@ -4,7 +4,7 @@ ghost use Rattle.std.specs.Prelude.{◌≡◌, ◌+◌, ◌-◌, ◌≤◌, ◌<
 ghost use Rattle.std.specs.List.{AllByRecursion};
 ghost use Rattle.std.specs.Option.{option_copied};
 ghost use mathlib.Core.List.{IsPrefix};
-ghost use Rattle.shared_log.specs.Fronts.{settled_records};
+ghost use Rattle.shared_log.specs.SeenPrefixes.{settled_records};
 ghost use Rattle.txlog.specs.Invariants.{IsPublisher};
 ghost use Rattle.txlog.specs.Rows.{rows_of};
 ghost use Rattle.txlog.specs.Publishing.{RefusedOrMemory, RefusedOrMemoryBack, RefusedExactly, after_abort, after_commit, new_publisher, begin_refusal, after_begin, after_give_back, end_refusal, is_live, log_end, receipt_of, release_refusal, after_release, rollback_refusal, after_rollback, room, after_savepoint, savepoint_refusal, savepoints_of};
@@ -12,7 +12,7 @@ ghost use Rattle.txlog.specs.Publishing.{RefusedOrMemory, RefusedOrMemoryBack, R
 use crate::answers::fault::SessionFault;
 use crate::answers::receipt::Receipt;
 use crate::limits::{MAX_DEPTH, MAX_LIVE, MOST_RECORDS};
-use crate::opened::Opened;
+use crate::publisher_parts::PublisherParts;
 use crate::snapshots::Snapshots;
 use crate::transactions::live::Live;
 use crate::transactions::savepoint::Savepoint;
@@ -79,7 +79,10 @@ impl<L: LogName> Publisher<L> {
     ghost use Rattle.shared_log.specs.Readers.{seen_of};
 
     /// A publisher of an empty log, and its readers. `Memory` (S11) where memory is refused; nothing is left of it then.
-    pub fn open<R: Wait>(rt: &R, opened: Opened) -> Result<(Self, Vec<LogReader<L>>), SessionFault>
+    pub fn open<R: Wait>(
+        rt: &R,
+        opened: PublisherParts,
+    ) -> Result<(Self, Vec<LogReader<L>>), SessionFault>
         requires name { opened.history.seen.book ≡ L.book }
         ensures ok { IfOk result (λ made. made.0 ≡ new_publisher opened.catalog opened.capacity) }
         ensures readers { IfOk result
@@ -87,7 +90,7 @@ impl<L: LogName> Publisher<L> {
             × AllByRecursion (λ reader. reader.place ≡ 0) made.1.items) }
         ensures err { IfErr result (λ e. e ≡ SessionFault.Memory) }
     {
-        let Opened {
+        let PublisherParts {
             alloc,
             catalog,
             capacity,
@@ -110,7 +113,7 @@ impl<L: LogName> Publisher<L> {
         }
     }
 
-    /// Ends the log. It waits for readers that are in it; later fetches are E1.
+    /// Ends the log. It waits for readers that are in it; later fetches are `NoEntry` (E1).
     pub fn close<R: Wait>(self, rt: &R) {
         let Publisher {
             store: _,

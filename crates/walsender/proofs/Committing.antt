@@ -17,7 +17,7 @@ use Rattle.pgoutput.specs.declared.published.Published.{Published}
 use Rattle.pgoutput.specs.Words.{frames_of}
 use Rattle.pgoutput.specs.Items.{Block, bytes_of_items, relations_sent_through, transaction_words}
 use Rattle.walsender.specs.Published.{published_with}
-use Rattle.walsender.specs.Waiting.{AreSelected, AreWithin, begin_bytes, bytes_behind, changes_bytes, commit_bytes, places, ready_states, sent_behind}
+use Rattle.walsender.specs.Waiting.{AreSelected, AreWithin, begin_bytes, bytes_after, changes_bytes, commit_bytes, places, ready_states, sent_after}
 use Rattle.walsender.specs.Outgoing.{Grows, IsOutgoing, Queues, StaysQueued, frames_left, held_behind, held_of, lent_in, lent_of, sent_of, settled_of}
 use Rattle.walsender.specs.Lent.{lent_with}
 use Rattle.walsender.specs.declared.commit_frames.header.Header.{Header}
@@ -79,7 +79,7 @@ module _ (selection : PublicationSet) (s : ReorderState) (o o' : Outgoing) (read
     some = subst (AllByRecursion (λ (r : ReadyState). 0 < length r.places)) (sym waiting_readies) (all_of_both (λ (r : ReadyState). 0 < length r.places) (ready_states o.waiting.items) (ready ∷ []) good.some (some, tt));
   }
 
-  bytes_queued : bytes_behind selection s.strands.pool sent (o.made.items ++ begin) (o.waiting.items ++ last ∷ [])
+  bytes_queued : bytes_after selection s.strands.pool sent (o.made.items ++ begin) (o.waiting.items ++ last ∷ [])
       ≡ (held_behind selection s o ++ begin) ++ (changes_bytes selection (sent_of selection s o) clock published.changes ++ commit)
   bytes_queued =
       bytes_last selection s.strands.pool sent (o.made.items ++ begin) o.waiting.items last within_begun in_place
@@ -92,17 +92,17 @@ module _ (selection : PublicationSet) (s : ReorderState) (o o' : Outgoing) (read
   held_queued =
       ap (λ (l : List ℕ). l ++ (frames_left o' ++ held_behind selection s o')) q.front
       ∙ ap (λ (l : List ℕ). o.front.items ++ (l ++ held_behind selection s o')) (frames_same o o' good.from good.to q.frames q.from q.to)
-      ∙ ap (λ (l : List ℕ). o.front.items ++ (frames_left o ++ bytes_behind selection s.strands.pool (reverse l) o'.made.items o'.waiting.items)) q.sent
-      ∙ ap (λ (l : List ℕ). o.front.items ++ (frames_left o ++ bytes_behind selection s.strands.pool sent l o'.waiting.items)) q.made
-      ∙ ap (λ (ws : List CommittedTransaction). o.front.items ++ (frames_left o ++ bytes_behind selection s.strands.pool sent (o.made.items ++ begin) ws)) q.waiting
+      ∙ ap (λ (l : List ℕ). o.front.items ++ (frames_left o ++ bytes_after selection s.strands.pool (reverse l) o'.made.items o'.waiting.items)) q.sent
+      ∙ ap (λ (l : List ℕ). o.front.items ++ (frames_left o ++ bytes_after selection s.strands.pool sent l o'.waiting.items)) q.made
+      ∙ ap (λ (ws : List CommittedTransaction). o.front.items ++ (frames_left o ++ bytes_after selection s.strands.pool sent (o.made.items ++ begin) ws)) q.waiting
       ∙ ap (λ (l : List ℕ). o.front.items ++ (frames_left o ++ l)) bytes_queued
       ∙ regroup o.front.items (frames_left o) (held_behind selection s o) begin (changes_bytes selection (sent_of selection s o) clock published.changes) commit
       ∙ ap (λ (l : List ℕ). held_of selection s o ++ l) (sym block_spelled)
 
   sent_queued : sent_of selection s o' ≡ relations_sent_through (sent_of selection s o) (published ∷ [])
   sent_queued =
-      ap (λ (l : List ℕ). sent_behind selection s.strands.pool (reverse l) o'.waiting.items) q.sent
-      ∙ ap (λ (ws : List CommittedTransaction). sent_behind selection s.strands.pool sent ws) q.waiting
+      ap (λ (l : List ℕ). sent_after selection s.strands.pool (reverse l) o'.waiting.items) q.sent
+      ∙ ap (λ (ws : List CommittedTransaction). sent_after selection s.strands.pool sent ws) q.waiting
       ∙ sent_last selection s.strands.pool sent o.waiting.items last
 
   pub lent_queued : lent_of s o' ≡ lent_of s o ++ lent_with (ready_chunks s.strands.pool.arena ready) published ∷ []

@@ -21,7 +21,7 @@ use Rattle.pgoutput.specs.Logical.{spell_logical}
 use Rattle.publication.specs.Publications.{PublicationSet}
 use Rattle.publication.specs.Selection.{relation}
 use Rattle.pgoutput.specs.declared.published.PublishedChange.{PublishedChange}
-use Rattle.pgoutput.specs.declared.word.Word.{Word}
+use Rattle.pgoutput.specs.declared.copy_both_message.CopyBothMessage.{CopyBothMessage}
 use Rattle.pgoutput.specs.Words.{frames_of, word_bytes}
 use Rattle.pgoutput.specs.Items.{changes_words, is_relation_sent, relation_words, relations_due, relations_sent_by, relations_sent_by_all, tables_of, xlogdata_word}
 use Rattle.walsender.specs.Waiting.{Makes, changes_bytes, frame_head}
@@ -92,7 +92,7 @@ module _ (rel : ℕ → Relation) (clock : ℤ) (sent : List ℕ) (c : Published
 
   -- a Relation is due
   module _ (oid : ℕ) (rest : List ℕ) (is : due ≡ oid ∷ rest) where
-    abbrev pub word : Word
+    abbrev pub word : CopyBothMessage
     word = xlogdata_word c.position clock (logical.Relation (rel oid))
 
     after : relations_due (oid ∷ sent) (tables_of c.message) ≡ rest
@@ -103,7 +103,7 @@ module _ (rel : ℕ → Relation) (clock : ℤ) (sent : List ℕ) (c : Published
         ap (λ (l : List ℕ). reverse l ++ sent) is ∙ ap (λ (l : List ℕ). l ++ sent) (reverse_onto rest oid []) ∙ append_assoc (reverse rest) (oid ∷ []) sent
         ∙ ap (λ (l : List ℕ). reverse l ++ (oid ∷ sent)) (sym after)
 
-    abbrev pub with_due : List ℕ → List Word
+    abbrev pub with_due : List ℕ → List CopyBothMessage
     with_due oids = relation_words rel c.position clock oids ++ (xlogdata_word c.position clock c.message ∷ [])
 
     words_due : changes_words rel sent clock (c ∷ cs) ≡ word ∷ changes_words rel (oid ∷ sent) clock (c ∷ cs)

@@ -18,7 +18,7 @@ use Rattle.reorder.proofs.Settling.{entries_given_back}
 use Rattle.pgoutput.specs.declared.published.PublishedChange.{PublishedChange}
 use Rattle.pgoutput.specs.Items.{relations_sent_by_all}
 use Rattle.walsender.specs.Published.{published_changes}
-use Rattle.walsender.specs.Waiting.{AreSelected, AreWithin, Makes, bytes_behind, bytes_left, changes_bytes, commit_bytes, left_of, places, ready_states, sent_behind}
+use Rattle.walsender.specs.Waiting.{AreSelected, AreWithin, Makes, bytes_after, bytes_left, changes_bytes, commit_bytes, left_of, places, ready_states, sent_after}
 use Rattle.walsender.specs.Lent.{LentTransaction}
 use Rattle.walsender.specs.Outgoing.{HoldsSame, IsFilled, IsOutgoing, IsSameQueue, frames_left, held_behind, held_of, lent_in, lent_of, sent_of}
 use Rattle.walsender.specs.declared.held.outgoing.Outgoing.{Outgoing}
@@ -81,31 +81,31 @@ moved_to w next = record w { next = next }
 
 module _ (selection : PublicationSet) (pool : PoolState) where
   pub made_moved : (sent made : List ℕ) (w : CommittedTransaction) (ws : List CommittedTransaction) (count : ℕ) → count ≤ w.before
-      → bytes_behind selection pool sent made (w ∷ ws) ≡ take count made ++ bytes_behind selection pool sent (drop count made) (less w count ∷ ws)
+      → bytes_after selection pool sent made (w ∷ ws) ≡ take count made ++ bytes_after selection pool sent (drop count made) (less w count ∷ ws)
   made_moved sent made w ws count low =
       let changes = bytes_left selection pool sent w in
       let next = relations_sent_by_all sent (left_of selection pool w) in
-      ap (λ (l : List ℕ). l ++ (changes ++ bytes_behind selection pool next (drop w.before made) ws)) (take_split count w.before made low)
-      ∙ append_assoc (take count made) (take (w.before - count) (drop count made)) (changes ++ bytes_behind selection pool next (drop w.before made) ws)
-      ∙ ap (λ (l : List ℕ). take count made ++ (take (w.before - count) (drop count made) ++ (changes ++ bytes_behind selection pool next l ws))) (sym (drop_split count w.before made low))
+      ap (λ (l : List ℕ). l ++ (changes ++ bytes_after selection pool next (drop w.before made) ws)) (take_split count w.before made low)
+      ∙ append_assoc (take count made) (take (w.before - count) (drop count made)) (changes ++ bytes_after selection pool next (drop w.before made) ws)
+      ∙ ap (λ (l : List ℕ). take count made ++ (take (w.before - count) (drop count made) ++ (changes ++ bytes_after selection pool next l ws))) (sym (drop_split count w.before made low))
 
   -- where nothing stands before its changes
   pub bytes_first : (sent made : List ℕ) (w : CommittedTransaction) (ws : List CommittedTransaction) → w.before ≡ 0
-      → bytes_behind selection pool sent made (w ∷ ws) ≡ bytes_left selection pool sent w ++ bytes_behind selection pool (relations_sent_by_all sent (left_of selection pool w)) made ws
+      → bytes_after selection pool sent made (w ∷ ws) ≡ bytes_left selection pool sent w ++ bytes_after selection pool (relations_sent_by_all sent (left_of selection pool w)) made ws
   bytes_first sent made w ws none =
-      ap (λ (n : ℕ). take n made ++ (bytes_left selection pool sent w ++ bytes_behind selection pool (relations_sent_by_all sent (left_of selection pool w)) (drop n made) ws)) none
+      ap (λ (n : ℕ). take n made ++ (bytes_left selection pool sent w ++ bytes_after selection pool (relations_sent_by_all sent (left_of selection pool w)) (drop n made) ws)) none
 
   pub frame_moved : (sent sent' made bytes : List ℕ) (w : CommittedTransaction) (ws : List CommittedTransaction) (next : ℕ) → w.before ≡ 0
       → Makes selection w.clock (left_of selection pool w) (left_of selection pool (moved_to w next)) sent sent' bytes
-      → bytes_behind selection pool sent made (w ∷ ws) ≡ bytes ++ bytes_behind selection pool sent' made (moved_to w next ∷ ws)
+      → bytes_after selection pool sent made (w ∷ ws) ≡ bytes ++ bytes_after selection pool sent' made (moved_to w next ∷ ws)
   frame_moved sent sent' made bytes w ws next none makes =
       let changes = changes_bytes selection sent' w.clock (left_of selection pool (moved_to w next)) in
       let commit = commit_bytes w.clock w.header in
       let here = changes ++ commit in
-      let behind = bytes_behind selection pool (relations_sent_by_all sent' (left_of selection pool (moved_to w next))) made ws in
+      let behind = bytes_after selection pool (relations_sent_by_all sent' (left_of selection pool (moved_to w next))) made ws in
       bytes_first sent made w ws none
-      ∙ ap (λ (l : List ℕ). (l ++ commit) ++ bytes_behind selection pool (relations_sent_by_all sent (left_of selection pool w)) made ws) makes.bytes
-      ∙ ap (λ (l : List ℕ). ((bytes ++ changes) ++ commit) ++ bytes_behind selection pool l made ws) makes.names
+      ∙ ap (λ (l : List ℕ). (l ++ commit) ++ bytes_after selection pool (relations_sent_by_all sent (left_of selection pool w)) made ws) makes.bytes
+      ∙ ap (λ (l : List ℕ). ((bytes ++ changes) ++ commit) ++ bytes_after selection pool l made ws) makes.names
       ∙ ap (λ (l : List ℕ). l ++ behind) (append_assoc bytes changes commit)
       ∙ append_assoc bytes here behind
       ∙ ap (λ (l : List ℕ). bytes ++ l) (sym (bytes_first sent' made (moved_to w next) ws none))
@@ -191,12 +191,12 @@ first_moved selection s o o' w ws count good some low room comes is is' made pla
     let size : length o'.made.items ≡ length o.made.items - count = ap (length {A = ℕ}) made ∙ length-drop count o.made.items in
     let less_left : length o.made.items - w.before ≡ length o'.made.items - (w.before - count) = omega arith in
     let placed_is : w.before + places ws ≡ o.placed = ap places (sym is) ∙ good.placed in
-    let behind_is : held_behind selection s o' ≡ bytes_behind selection pool sent (drop count o.made.items) (less w count ∷ ws) =
-    ap (λ (l : List ℕ). bytes_behind selection pool l o'.made.items o'.waiting.items) sent_is ∙ ap (λ (l : List ℕ). bytes_behind selection pool sent l o'.waiting.items) made
-    ∙ ap (bytes_behind selection pool sent (drop count o.made.items)) is' in
+    let after_is : held_behind selection s o' ≡ bytes_after selection pool sent (drop count o.made.items) (less w count ∷ ws) =
+    ap (λ (l : List ℕ). bytes_after selection pool l o'.made.items o'.waiting.items) sent_is ∙ ap (λ (l : List ℕ). bytes_after selection pool sent l o'.waiting.items) made
+    ∙ ap (bytes_after selection pool sent (drop count o.made.items)) is' in
     same_before selection s o o' (take count o.made.items) good comes
-    (ap (bytes_behind selection pool sent o.made.items) is ∙ made_moved selection pool sent o.made.items w ws count low ∙ ap (λ (l : List ℕ). take count o.made.items ++ l) (sym behind_is))
-    (ap (λ (l : List ℕ). sent_behind selection pool l o'.waiting.items) sent_is ∙ ap (sent_behind selection pool sent) is' ∙ sym (ap (sent_behind selection pool sent) is))
+    (ap (bytes_after selection pool sent o.made.items) is ∙ made_moved selection pool sent o.made.items w ws count low ∙ ap (λ (l : List ℕ). take count o.made.items ++ l) (sym after_is))
+    (ap (λ (l : List ℕ). sent_after selection pool l o'.waiting.items) sent_is ∙ ap (sent_after selection pool sent) is' ∙ sym (ap (sent_after selection pool sent) is))
     (ap ready_states is' ∙ sym (ap ready_states is))
     (ap (map (lent_in pool.arena)) is' ∙ sym (ap (map (lent_in pool.arena)) is))
     (subst (AreWithin (length o'.made.items)) (sym is') (omega arith, subst (λ (n : ℕ). AreWithin n ws) less_left within.1))
@@ -214,10 +214,10 @@ last_moved selection s o o' count good room comes is waiting made placed relatio
     let sent = reverse o.relations_sent.items in
     let is' : o'.waiting.items ≡ [] = ap (λ (q : _). q.items) waiting ∙ is in
     let sent_is : reverse o'.relations_sent.items ≡ sent = ap (λ (r : _). reverse r.items) relations in
-    let behind_is : held_behind selection s o' ≡ drop count o.made.items = ap (bytes_behind selection pool (reverse o'.relations_sent.items) o'.made.items) is' ∙ made in
+    let after_is : held_behind selection s o' ≡ drop count o.made.items = ap (bytes_after selection pool (reverse o'.relations_sent.items) o'.made.items) is' ∙ made in
     same_before selection s o o' (take count o.made.items) good comes
-    (ap (bytes_behind selection pool sent o.made.items) is ∙ sym (take-append-drop count o.made.items) ∙ ap (λ (l : List ℕ). take count o.made.items ++ l) (sym behind_is))
-    (ap (λ (l : List ℕ). sent_behind selection pool l o'.waiting.items) sent_is ∙ ap (sent_behind selection pool sent) is' ∙ sym (ap (sent_behind selection pool sent) is))
+    (ap (bytes_after selection pool sent o.made.items) is ∙ sym (take-append-drop count o.made.items) ∙ ap (λ (l : List ℕ). take count o.made.items ++ l) (sym after_is))
+    (ap (λ (l : List ℕ). sent_after selection pool l o'.waiting.items) sent_is ∙ ap (sent_after selection pool sent) is' ∙ sym (ap (sent_after selection pool sent) is))
     (ap ready_states is' ∙ sym (ap ready_states is))
     (ap (map (lent_in pool.arena)) is' ∙ sym (ap (map (lent_in pool.arena)) is))
     (subst (AreWithin (length o'.made.items)) (sym is') tt)
@@ -238,11 +238,11 @@ frame_made selection s o o' w ws next bytes good none room comes is is' made pla
     let sent' = reverse o'.relations_sent.items in
     let within : AreWithin (length o.made.items) (w ∷ ws) = subst (AreWithin (length o.made.items)) is good.within in
     let size : length o'.made.items ≡ length o.made.items = ap (length {A = ℕ}) made in
-    let behind_is : held_behind selection s o' ≡ bytes_behind selection pool sent' o.made.items (moved_to w next ∷ ws) =
-    ap (λ (l : List ℕ). bytes_behind selection pool sent' l o'.waiting.items) made ∙ ap (bytes_behind selection pool sent' o.made.items) is' in
+    let after_is : held_behind selection s o' ≡ bytes_after selection pool sent' o.made.items (moved_to w next ∷ ws) =
+    ap (λ (l : List ℕ). bytes_after selection pool sent' l o'.waiting.items) made ∙ ap (bytes_after selection pool sent' o.made.items) is' in
     same_before selection s o o' bytes good comes
-    (ap (bytes_behind selection pool sent o.made.items) is ∙ frame_moved selection pool sent sent' o.made.items bytes w ws next none makes ∙ ap (λ (l : List ℕ). bytes ++ l) (sym behind_is))
-    (ap (sent_behind selection pool sent') is' ∙ ap (λ (l : List ℕ). sent_behind selection pool l ws) (sym makes.names) ∙ sym (ap (sent_behind selection pool sent) is))
+    (ap (bytes_after selection pool sent o.made.items) is ∙ frame_moved selection pool sent sent' o.made.items bytes w ws next none makes ∙ ap (λ (l : List ℕ). bytes ++ l) (sym after_is))
+    (ap (sent_after selection pool sent') is' ∙ ap (λ (l : List ℕ). sent_after selection pool l ws) (sym makes.names) ∙ sym (ap (sent_after selection pool sent) is))
     (ap ready_states is' ∙ sym (ap ready_states is))
     (ap (map (lent_in pool.arena)) is' ∙ sym (ap (map (lent_in pool.arena)) is))
     (subst (AreWithin (length o'.made.items)) (sym is') (subst (λ (n : ℕ). AreWithin n (moved_to w next ∷ ws)) (sym size) (within.0, within.1)))
@@ -267,15 +267,15 @@ first_over selection s s' o o' w good is none over room comes back made placed r
     let size : length o'.made.items ≡ length o.made.items = ap (length {A = ℕ}) made in
     let left = none_left selection pool w over in
     let sent_is : reverse o'.relations_sent.items ≡ sent = ap (λ (r : _). reverse r.items) relations in
-    let bytes : bytes_behind selection pool sent o.made.items (w ∷ ws) ≡ commit ++ bytes_behind selection pool sent o.made.items ws =
+    let bytes : bytes_after selection pool sent o.made.items (w ∷ ws) ≡ commit ++ bytes_after selection pool sent o.made.items ws =
     bytes_first selection pool sent o.made.items w ws none
-    ∙ ap (λ (cs : List PublishedChange). (changes_bytes selection sent w.clock cs ++ commit) ++ bytes_behind selection pool (relations_sent_by_all sent cs) o.made.items ws) left in
-    let names : sent_behind selection pool sent (w ∷ ws) ≡ sent_behind selection pool sent ws = ap (λ (cs : List PublishedChange). sent_behind selection pool (relations_sent_by_all sent cs) ws) left in
-    let behind_is : held_behind selection s' o' ≡ bytes_behind selection pool sent o.made.items ws =
-    ap (λ (l : List ℕ). bytes_behind selection pool' l o'.made.items ws) sent_is ∙ ap (λ (l : List ℕ). bytes_behind selection pool' sent l ws) made
+    ∙ ap (λ (cs : List PublishedChange). (changes_bytes selection sent w.clock cs ++ commit) ++ bytes_after selection pool (relations_sent_by_all sent cs) o.made.items ws) left in
+    let names : sent_after selection pool sent (w ∷ ws) ≡ sent_after selection pool sent ws = ap (λ (cs : List PublishedChange). sent_after selection pool (relations_sent_by_all sent cs) ws) left in
+    let after_is : held_behind selection s' o' ≡ bytes_after selection pool sent o.made.items ws =
+    ap (λ (l : List ℕ). bytes_after selection pool' l o'.made.items ws) sent_is ∙ ap (λ (l : List ℕ). bytes_after selection pool' sent l ws) made
     ∙ bytes_same selection pool pool' sent o.made.items ws later.1 in
     let behind : held_behind selection s o ≡ commit ++ held_behind selection s' o' =
-    ap (bytes_behind selection pool sent o.made.items) is ∙ bytes ∙ ap (λ (l : List ℕ). commit ++ l) (sym behind_is) in
+    ap (bytes_after selection pool sent o.made.items) is ∙ bytes ∙ ap (λ (l : List ℕ). commit ++ l) (sym after_is) in
     let frames : frames_left o' ≡ frames_left o ++ commit =
     ap (λ (n : ℕ). take (o'.to - n) (drop n o'.frames.items)) comes.from ∙ part_more o.from o.to o'.to o.frames.items o'.frames.items commit good.from comes.low good.to comes.taken in
     let before : w.before + places ws ≡ o.placed = ap places (sym is) ∙ good.placed in
@@ -297,7 +297,7 @@ first_over selection s s' o o' w good is none over room comes back made placed r
           ∙ ap (λ (l : List ℕ). o.front.items ++ (l ++ held_behind selection s' o')) frames
           ∙ ap (λ (l : List ℕ). o.front.items ++ l) (append_assoc (frames_left o) commit (held_behind selection s' o'))
           ∙ ap (λ (l : List ℕ). o.front.items ++ (frames_left o ++ l)) (sym behind);
-      sent = ap (λ (l : List ℕ). sent_behind selection pool' l ws) sent_is ∙ sent_same selection pool pool' sent ws later.1 ∙ sym names ∙ sym (ap (sent_behind selection pool sent) is);
+      sent = ap (λ (l : List ℕ). sent_after selection pool' l ws) sent_is ∙ sent_same selection pool pool' sent ws later.1 ∙ sym names ∙ sym (ap (sent_after selection pool sent) is);
       settled = ap (λ (t : ReorderState). after_giving_all_back t (ready_states ws)) back ∙ sym (ap (λ (l : List CommittedTransaction). after_giving_all_back s (ready_states l)) is);
       lent = (
         lent_in pool.arena w ∷ [],

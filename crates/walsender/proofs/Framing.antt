@@ -13,7 +13,7 @@ use Rattle.copyboth.specs.Keepalive.{keepalive, ask_byte}
 use Rattle.pgoutput.specs.declared.logical.Logical.{Logical}
 use Rattle.pgoutput.specs.Logical.{spell_logical}
 use Rattle.pgoutput.specs.declared.messages.relation.Relation.{Relation}
-use Rattle.pgoutput.specs.declared.word.Word.{Word}
+use Rattle.pgoutput.specs.declared.copy_both_message.CopyBothMessage.{CopyBothMessage}
 use Rattle.pgoutput.specs.declared.published.Published.{Published}
 use Rattle.pgoutput.specs.Words.{word_bytes, frames_of}
 use Rattle.pgoutput.specs.Items.{xlogdata_word, keepalive_word, begin_message, commit_message, changes_words, transaction_words}
@@ -37,24 +37,24 @@ length-keepalive end clock ask =
     omega (arith, length-int64 end, length-int64 (cast_unsigned w64 clock), length-append (int64 end) (int64 (cast_unsigned w64 clock) ++ (ask_byte ask ∷ [])), length-append (int64 (cast_unsigned w64 clock)) (ask_byte ask ∷ []))
 
 -- a body after its head
-behind_head : (old headed whole body : List ℕ) (n : ℕ) → n ≡ length body → headed ≡ old ++ (COPY_DATA ∷ int32 (4 + n)) → whole ≡ headed ++ body → whole ≡ old ++ (COPY_DATA ∷ (int32 (4 + length body) ++ body))
-behind_head old headed whole body n len head tail =
+after_head : (old headed whole body : List ℕ) (n : ℕ) → n ≡ length body → headed ≡ old ++ (COPY_DATA ∷ int32 (4 + n)) → whole ≡ headed ++ body → whole ≡ old ++ (COPY_DATA ∷ (int32 (4 + length body) ++ body))
+after_head old headed whole body n len head tail =
     tail ∙ ap (λ (l : List ℕ). l ++ body) head ∙ append_assoc old (COPY_DATA ∷ int32 (4 + n)) body ∙ ap (λ (k : ℕ). old ++ (COPY_DATA ∷ (int32 (4 + k) ++ body))) len
 
 pub xlogdata_whole : (old headed whole message : List ℕ) (position : ℕ) (clock : ℤ) → headed ≡ old ++ (COPY_DATA ∷ int32 (4 + (25 + length message)))
     → whole ≡ headed ++ xlogdata position position clock message → whole ≡ old ++ frame COPY_DATA (xlogdata position position clock message)
 xlogdata_whole old headed whole message position clock head tail =
-    behind_head old headed whole (xlogdata position position clock message) (25 + length message) (sym (length-xlogdata position position clock message)) head tail
+    after_head old headed whole (xlogdata position position clock message) (25 + length message) (sym (length-xlogdata position position clock message)) head tail
 
 pub keepalive_whole : (old headed whole : List ℕ) (position : ℕ) (clock : ℤ) (ask : Bool) → headed ≡ old ++ (COPY_DATA ∷ int32 (4 + 18)) → whole ≡ headed ++ keepalive position clock ask → whole ≡ old ++ word_bytes (keepalive_word position clock ask)
-keepalive_whole old headed whole position clock ask head tail = behind_head old headed whole (keepalive position clock ask) 18 (sym (length-keepalive position clock ask)) head tail
+keepalive_whole old headed whole position clock ask head tail = after_head old headed whole (keepalive position clock ask) 18 (sym (length-keepalive position clock ask)) head tail
 
 -- ---- blocks
 
-frames_append : (ws vs : List Word) → frames_of (ws ++ vs) ≡ frames_of ws ++ frames_of vs
+frames_append : (ws vs : List CopyBothMessage) → frames_of (ws ++ vs) ≡ frames_of ws ++ frames_of vs
 frames_append ws vs = flat_map-append word_bytes ws vs
 
-pub frames_one : (w : Word) → frames_of (w ∷ []) ≡ word_bytes w
+pub frames_one : (w : CopyBothMessage) → frames_of (w ∷ []) ≡ word_bytes w
 frames_one w = flat_map-cons word_bytes w [] ∙ append-nil (word_bytes w)
 
 pub block_is : (relation : ℕ → Relation) (relations_sent : List ℕ) (clock : ℤ) (t : Published) → frames_of (transaction_words relation relations_sent clock t)

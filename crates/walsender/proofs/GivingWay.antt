@@ -77,10 +77,10 @@ module _ (selection : PublicationSet) (old new : ReorderState) (o o' : Outgoing)
       way
 
   -- what is read after the same is read after what it was
-  pub read_behind : (clock : ℤ) (start position : ℕ) (failed : Bool) (r : Record) (last : SenderState)
+  pub read_after : (clock : ℤ) (start position : ℕ) (failed : Bool) (r : Record) (last : SenderState)
       → ReadOne clock (state selection start position failed (held_of selection new o') (sent_of selection new o') (settled_of new o') (lent_of new o')) last r
       → ReadOne clock (state selection start position failed (held_of selection old o) (sent_of selection old o) (settled_of old o) (lent_of old o)) last r
-  read_behind clock start position failed r last read =
+  read_after clock start position failed r last read =
       let lent = lent_of new o' in
       let one =
       subst (λ (h : List ℕ). ReadOne clock (state selection start position failed h (sent_of selection old o) (settled_of old o) lent) last r) same.held

@@ -9,7 +9,7 @@ use Rattle.publication.specs.Publications.{PublicationSet}
 use Rattle.reorder.specs.Ready.{ReadyState}
 use Rattle.reorder.specs.Settled.{AreLentIn, after_giving_all_back}
 use Rattle.reorder.specs.Taking.{ReorderState}
-use Rattle.walsender.specs.Waiting.{AreSelected, AreWithin, bytes_behind, places, ready_states, sent_behind}
+use Rattle.walsender.specs.Waiting.{AreSelected, AreWithin, bytes_after, places, ready_states, sent_after}
 use Rattle.walsender.specs.Outgoing.{AddsBytes, HasRoom, IsOutgoing, IsSameQueue, IsSized, frames_left, held_behind, held_of, lent_in, lent_of, sent_of, settled_of}
 use Rattle.walsender.specs.declared.held.outgoing.Outgoing.{Outgoing}
 use Rattle.walsender.specs.declared.held.outgoing.TheConstants.{FRAMES_LENGTH}
@@ -52,20 +52,20 @@ module _ (o o' : Outgoing) (low : o.from ≤ o.to) (high : o.to ≤ length o.fra
 
 module _ (selection : PublicationSet) (s : ReorderState) (o o' : Outgoing) (good : IsOutgoing selection s o) (sized : IsSized o o') (rest : IsSameQueue o o') where
   abbrev behind : List ℕ → List ℕ
-  behind made = bytes_behind selection s.strands.pool (reverse o.relations_sent.items) made o.waiting.items
+  behind made = bytes_after selection s.strands.pool (reverse o.relations_sent.items) made o.waiting.items
 
   held_as : (made : List ℕ) → o'.made.items ≡ made → held_of selection s o' ≡ o.front.items ++ (frames_left o ++ behind made)
   held_as made is =
       ap (λ (l : List ℕ). l ++ (frames_left o' ++ held_behind selection s o')) rest.front
       ∙ ap (λ (l : List ℕ). o.front.items ++ (l ++ held_behind selection s o')) (frames_same o o' good.from good.to sized rest.from rest.to)
-      ∙ ap (λ (l : List ℕ). o.front.items ++ (frames_left o ++ bytes_behind selection s.strands.pool (reverse l) o'.made.items o'.waiting.items)) rest.sent
-      ∙ ap (λ (ws : List CommittedTransaction). o.front.items ++ (frames_left o ++ bytes_behind selection s.strands.pool (reverse o.relations_sent.items) o'.made.items ws)) rest.waiting
+      ∙ ap (λ (l : List ℕ). o.front.items ++ (frames_left o ++ bytes_after selection s.strands.pool (reverse l) o'.made.items o'.waiting.items)) rest.sent
+      ∙ ap (λ (ws : List CommittedTransaction). o.front.items ++ (frames_left o ++ bytes_after selection s.strands.pool (reverse o.relations_sent.items) o'.made.items ws)) rest.waiting
       ∙ ap (λ (l : List ℕ). o.front.items ++ (frames_left o ++ behind l)) is
 
   pub sent_kept : sent_of selection s o' ≡ sent_of selection s o
   sent_kept =
-      ap (λ (l : List ℕ). sent_behind selection s.strands.pool (reverse l) o'.waiting.items) rest.sent
-      ∙ ap (λ (ws : List CommittedTransaction). sent_behind selection s.strands.pool (reverse o.relations_sent.items) ws) rest.waiting
+      ap (λ (l : List ℕ). sent_after selection s.strands.pool (reverse l) o'.waiting.items) rest.sent
+      ∙ ap (λ (ws : List CommittedTransaction). sent_after selection s.strands.pool (reverse o.relations_sent.items) ws) rest.waiting
 
   pub lent_kept : lent_of s o' ≡ lent_of s o
   lent_kept = ap (map (lent_in s.strands.pool.arena)) rest.waiting

@@ -18,13 +18,13 @@ use Rattle.reorder.specs.Pool.{PoolState}
 use Rattle.reorder.specs.Ready.{ReadyState}
 use Rattle.reorder.specs.Settled.{FillsReady, lent_chunks, ready_chunks}
 use Rattle.reorder.specs.Taking.{ReorderState, promised_changes, readied_changes}
-use Rattle.reorder.specs.declared.ready.Step.{Step}
-use Rattle.reorder.specs.declared.ready.Step.TheVariants as steps
+use Rattle.reorder.specs.declared.ready.RecordOutcome.{RecordOutcome}
+use Rattle.reorder.specs.declared.ready.RecordOutcome.TheVariants as steps
 use Rattle.walsender.specs.Lent.{AreHeld, AreLastOf, LentTransaction, lent_with, sent_as, sent_from}
 use Rattle.walsender.specs.Outgoing.{frames_left, held_of, lent_by_step, lent_in, lent_of}
 use Rattle.walsender.specs.Published.{has_message, published_as}
 use Rattle.walsender.specs.Sending.{published_by_record, sent_by_record}
-use Rattle.walsender.specs.Waiting.{bytes_behind, changes_bytes, commit_bytes, left_of, ready_states}
+use Rattle.walsender.specs.Waiting.{bytes_after, changes_bytes, commit_bytes, left_of, ready_states}
 use Rattle.walsender.specs.declared.held.outgoing.Outgoing.{Outgoing}
 use Rattle.walsender.specs.declared.held.committed_transaction.CommittedTransaction.{CommittedTransaction}
 
@@ -62,14 +62,14 @@ lent_sum s (w ∷ ws) =
     omega (arith, rest, sum_by-cons (λ (t : LentTransaction). t.chunks) (lent_in arena w) (map (lent_in arena) ws), sum_by-cons (λ (ready : ReadyState). ready_chunks arena ready) w.ready (ready_states ws))
 
 -- each one's Commit is among the bytes that are held
-commits_held : (selection : PublicationSet) (pool : PoolState) (front sent made : List ℕ) (ws : List CommittedTransaction) → AreHeld (front ++ bytes_behind selection pool sent made ws) (map (lent_in pool.arena) ws)
+commits_held : (selection : PublicationSet) (pool : PoolState) (front sent made : List ℕ) (ws : List CommittedTransaction) → AreHeld (front ++ bytes_after selection pool sent made ws) (map (lent_in pool.arena) ws)
 commits_held selection pool front sent made [] = tt
 commits_held selection pool front sent made (w ∷ ws) =
     let before = take w.before made in
     let changes = changes_bytes selection sent w.clock (left_of selection pool w) in
     let commit = commit_bytes w.clock w.header in
     let next = relations_sent_by_all sent (left_of selection pool w) in
-    let behind = bytes_behind selection pool next (drop w.before made) ws in
+    let behind = bytes_after selection pool next (drop w.before made) ws in
     ((front ++ before) ++ changes, w.clock, behind, regroup front before changes commit behind, commits_held selection pool [] next (drop w.before made) ws)
   where
     regroup : (front before changes commit behind : List ℕ) → front ++ (before ++ ((changes ++ commit) ++ behind)) ≡ ((front ++ before) ++ changes) ++ (commit ++ behind)
@@ -77,7 +77,7 @@ commits_held selection pool front sent made (w ∷ ws) =
 
 pub lent_held : (selection : PublicationSet) (s : ReorderState) (o : Outgoing) → AreHeld (held_of selection s o) (lent_of s o)
 lent_held selection s o =
-    let behind = bytes_behind selection s.strands.pool (reverse o.relations_sent.items) o.made.items o.waiting.items in
+    let behind = bytes_after selection s.strands.pool (reverse o.relations_sent.items) o.made.items o.waiting.items in
     subst (λ (l : List ℕ). AreHeld l (lent_of s o)) (append_assoc o.front.items (frames_left o) behind) (commits_held selection s.strands.pool (o.front.items ++ frames_left o) (reverse o.relations_sent.items) o.made.items o.waiting.items)
 
 -- ---- by the records
@@ -87,7 +87,7 @@ sent_from-append selection s before m n =
     ap (flat_map (sent_as selection)) (committed_from-append s before m n) ∙ flat_map-append (sent_as selection) (committed_from s before m) (committed_from s (before ++ m) n)
 
 -- what is ready takes the chunks that its changes fill
-pub step_fills : (selection : PublicationSet) (start : ℕ) (r : Record) (s : ReorderState) (step : Step) → FillsReady s step
+pub step_fills : (selection : PublicationSet) (start : ℕ) (r : Record) (s : ReorderState) (step : RecordOutcome) → FillsReady s step
     → lent_by_step (published_by_record selection start r (readied_changes s step)) s step ≡ sent_by_record selection start r (readied_changes s step)
 step_fills selection start r s steps.Quiet fills = refl
 step_fills selection start r s (steps.Ready ready) fills = ap (λ (n : ℕ). map (lent_with n) (published_by_record selection start r (readied_changes s (steps.Ready ready)))) fills

@@ -12,7 +12,7 @@ use Rattle.reorder.specs.Taking.{HasTaken, ReorderState}
 use Rattle.reorder.specs.Settled.{AreLentIn, after_giving_all_back, after_giving_back, ready_chunks}
 use Rattle.reorder.proofs.Settling.{entries_given_back, entries_lent, taken_settled}
 use Rattle.reorder.proofs.Filling.{chunks_each_given_back, chunks_each_lent, settled_tidy, tidy_settled}
-use Rattle.walsender.specs.Waiting.{bytes_behind, ready_states}
+use Rattle.walsender.specs.Waiting.{bytes_after, ready_states}
 use Rattle.walsender.specs.Outgoing.{IsOutgoing, frames_left, held_behind, held_of, lent_of, sent_of}
 use Rattle.walsender.specs.declared.held.outgoing.Outgoing.{Outgoing}
 use Rattle.walsender.specs.declared.held.committed_transaction.CommittedTransaction.{CommittedTransaction}
@@ -106,11 +106,11 @@ holds_as selection s o good = by_tests (length o.front.items == 0) refl (nat_lt 
     low : length o.made.items ≤ length behind
     low = bytes_low selection s.strands.pool (reverse o.relations_sent.items) o.made.items o.waiting.items good.within
 
-    some_behind : (ws : List CommittedTransaction) → o.waiting.items ≡ ws → (length ws == 0) ≡ false → 0 < length behind
-    some_behind [] is never = absurd (let f : true ≡ false = never in cc)
-    some_behind (w ∷ ws) is never =
-        let long : length behind ≡ length (bytes_behind selection s.strands.pool (reverse o.relations_sent.items) o.made.items (w ∷ ws)) =
-        ap (λ (l : List CommittedTransaction). length (bytes_behind selection s.strands.pool (reverse o.relations_sent.items) o.made.items l)) is in
+    some_after : (ws : List CommittedTransaction) → o.waiting.items ≡ ws → (length ws == 0) ≡ false → 0 < length behind
+    some_after [] is never = absurd (let f : true ≡ false = never in cc)
+    some_after (w ∷ ws) is never =
+        let long : length behind ≡ length (bytes_after selection s.strands.pool (reverse o.relations_sent.items) o.made.items (w ∷ ws)) =
+        ap (λ (l : List CommittedTransaction). length (bytes_after selection s.strands.pool (reverse o.relations_sent.items) o.made.items l)) is in
         omega (arith, long, waits_some selection s.strands.pool (reverse o.relations_sent.items) o.made.items w ws)
 
     some : 0 < length (held_of selection s o) → true ≡ not (length (held_of selection s o) == 0)
@@ -121,7 +121,7 @@ holds_as selection s o good = by_tests (length o.front.items == 0) refl (nat_lt 
     by_tests false is_a b is_b d is_d e is_e = some (omega (arith, eqb-false (length o.front.items) 0 is_a, size))
     by_tests true is_a true is_b d is_d e is_e = some (omega (arith, ltb-true o.from o.to is_b, size, frames))
     by_tests true is_a false is_b false is_d e is_e = some (omega (arith, eqb-false (length o.made.items) 0 is_d, size, low))
-    by_tests true is_a false is_b true is_d false is_e = some (omega (arith, some_behind o.waiting.items refl is_e, size))
+    by_tests true is_a false is_b true is_d false is_e = some (omega (arith, some_after o.waiting.items refl is_e, size))
     by_tests true is_a false is_b true is_d true is_e =
         let order = ltb-false o.from o.to is_b in
         let only : held_of selection s o ≡ o.front.items = none_held selection s o good order (eqb-true (length o.made.items) 0 is_d) (eqb-true (length o.waiting.items) 0 is_e) in

@@ -9,7 +9,7 @@ use borrow.Rule.Slice.PartMut.{put_mid}
 use Rattle.publication.specs.Publications.{PublicationSet}
 use Rattle.reorder.specs.Taking.{ReorderState}
 use Rattle.walsender.proofs.Emptied.{empty_is}
-use Rattle.walsender.specs.Waiting.{bytes_behind}
+use Rattle.walsender.specs.Waiting.{bytes_after}
 use Rattle.walsender.specs.Outgoing.{HoldsSame, IsOutgoing, MovesOut, frames_left, held_behind, held_of, lent_of}
 use Rattle.walsender.specs.declared.held.outgoing.Outgoing.{Outgoing}
 use Rattle.walsender.specs.declared.held.committed_transaction.CommittedTransaction.{CommittedTransaction}
@@ -92,14 +92,14 @@ module _ (selection : PublicationSet) (s : ReorderState) (o o' : Outgoing) (good
 
   -- ---- what waits has bytes after the front
 
-  pub behind_waits : 0 < length o.waiting.items → length o.front.items < length (held_of selection s o)
-  behind_waits some = by_list o.waiting.items refl some
+  pub after_waits : 0 < length o.waiting.items → length o.front.items < length (held_of selection s o)
+  after_waits some = by_list o.waiting.items refl some
     where
       by_list : (ws : List CommittedTransaction) → o.waiting.items ≡ ws → 0 < length ws → length o.front.items < length (held_of selection s o)
       by_list [] is some = absurd (omega (arith, some))
       by_list (w ∷ ws) is some =
-          let long : length (held_behind selection s o) ≡ length (bytes_behind selection s.strands.pool (reverse o.relations_sent.items) o.made.items (w ∷ ws)) =
-          ap (λ (l : List CommittedTransaction). length (bytes_behind selection s.strands.pool (reverse o.relations_sent.items) o.made.items l)) is in
+          let long : length (held_behind selection s o) ≡ length (bytes_after selection s.strands.pool (reverse o.relations_sent.items) o.made.items (w ∷ ws)) =
+          ap (λ (l : List CommittedTransaction). length (bytes_after selection s.strands.pool (reverse o.relations_sent.items) o.made.items l)) is in
           omega (
             arith,
             long,
@@ -230,12 +230,12 @@ pub falls : (selection : PublicationSet) (s s' : ReorderState) (o o' : Outgoing)
     → MatchBool b (length o.front.items < length o'.front.items) (held_of selection s' o' ≡ o'.front.items)
     → length (held_of selection s' o') - length o'.front.items < length (held_of selection s o) - length o.front.items
 falls selection s s' o o' true good same some more =
-    let low = behind_waits selection s o o good some in
+    let low = after_waits selection s o o good some in
     let held = ap (length {A = ℕ}) same.held in
     let high = front_low selection s' o' o' same.good in
     omega (arith, low, held, high, more)
 falls selection s s' o o' false good same some only =
-    let low = behind_waits selection s o o good some in
+    let low = after_waits selection s o o good some in
     let all = ap (length {A = ℕ}) only in
     omega (arith, low, all)
 

@@ -20,7 +20,7 @@ use Rattle.walsender.specs.Turning.{IsRefused, ReadAndGave, fetched_from}
 use Rattle.walsender.specs.declared.stream_turn.limits.TheConstants.{TURN_RECORDS}
 use Rattle.walsender.specs.Serving.{IsServing, ReadsAndWrites}
 use Rattle.walsender.proofs.ServedSections.{section_of}
-use Rattle.walsender.proofs.Skipping.{reads_behind}
+use Rattle.walsender.proofs.Skipping.{reads_after}
 use Rattle.walsender.proofs.Serving.{given, grown_to, nothing_given, read_on, reading}
 
 -- what a turn tells
@@ -51,7 +51,7 @@ held_first clock old new place early seen before after written bytes begins good
     let r = reading seen place written old (grown_to early seen place written old begins serving) read.running in
     let part = section_of seen place TURN_RECORDS r.streaming.within good in
     let from = (grown_to early seen place written old begins serving).from in
-    let behind = reads_behind old.selection old.start from place seen (fetched_from place seen) part (grown_to early seen place written old begins serving).reads_from r.since in
+    let behind = reads_after old.selection old.start from place seen (fetched_from place seen) part (grown_to early seen place written old begins serving).reads_from r.since in
     let added = (read.read.after (drop from (take place seen)) r.read behind.may).1 in
     let more = published_bytes old.selection clock (published_transactions old.selection (drop from (take place seen)) old.start) (published_from old.selection old.start (drop from (take place seen)) (fetched_from place seen)) in
     let whole : bytes ≡ old.held ++ more = sym (append-nil bytes) ∙ ap (λ (l : List ℕ). bytes ++ l) (sym empty) ∙ sym read.parts ∙ added.adds in

@@ -28,7 +28,7 @@ use Rattle.walsender.proofs.Sections.{all_back, starts_below}
 use Rattle.walsender.specs.Serving.{BeginsAt, ReadsFrom, IsStreaming, IsServing, Reads, next_records}
 use Rattle.walsender.proofs.Late.{published_late}
 use Rattle.walsender.proofs.ServedSections.{IsSection, next_part, section_front, section_of, take_section, within_section}
-use Rattle.walsender.proofs.Skipping.{adds_whole, drop_section, from_grown, from_within, nothing_skipped, reads_behind}
+use Rattle.walsender.proofs.Skipping.{adds_whole, drop_section, from_grown, from_within, nothing_skipped, reads_after}
 use Rattle.walsender.proofs.Streams.{stream_read, stream_kept_alive, stream_moved, stream_new}
 
 -- ---- reading on
@@ -69,7 +69,7 @@ fed_on : (log : List Record) (place : ℕ) (section : List Record) (clock : ℤ)
     → IsServing log place written s → s.failed ≡ false → ReadAll clock s new section → IsServing log (place + length section) written new
 fed_on log place section clock written s new part fits serving running fed =
     let r = reading log place written s serving running in
-    let behind = reads_behind s.selection s.start serving.from place log section part serving.reads_from r.since in
+    let behind = reads_after s.selection s.start serving.from place log section part serving.reads_from r.since in
     let done = fed.after (drop serving.from (take place log)) r.read behind.may in
     let P : List Record → Type 0 = λ l. HasRead new l in
     let now : drop serving.from (take (place + length section) log) ≡ drop serving.from (take place log) ++ section =
@@ -92,7 +92,7 @@ broken_on : (log : List Record) (place any : ℕ) (section : List Record) (clock
 broken_on log place any section clock written s new part fits serving running fed =
     let r = reading log place written s serving running in
     let less = section_front log place fed.count section part in
-    let behind = reads_behind s.selection s.start serving.from place log (take fed.count section) less serving.reads_from r.since in
+    let behind = reads_after s.selection s.start serving.from place log (take fed.count section) less serving.reads_from r.since in
     let added = fed.after (drop serving.from (take place log)) r.read behind.may in
     record {
       from = serving.from;

@@ -81,8 +81,8 @@ pub record ReadsBehind (selection : PublicationSet) (start from place : ℕ) (lo
   pub whole : published_transactions selection (drop from (take place log)) start ≡ published_transactions selection (take place log) start
   pub next : published_from selection start (drop from (take place log)) section ≡ published_from selection start (take place log) section
 
-pub reads_behind : (selection : PublicationSet) (start from place : ℕ) (log section : List Record) → IsSection log place section → ReadsFrom log start from → from ≤ place → ReadsBehind selection start from place log section
-reads_behind selection start from place log section s reads since =
+pub reads_after : (selection : PublicationSet) (start from place : ℕ) (log section : List Record) → IsSection log place section → ReadsFrom log start from → from ≤ place → ReadsBehind selection start from place log section
+reads_after selection start from place log section s reads since =
     let pre = take place log in
     let skipped = take from pre in
     let read = drop from pre in

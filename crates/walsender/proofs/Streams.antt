@@ -10,7 +10,7 @@ use Rattle.pgoutput.specs.declared.messages.relation.Relation.{Relation}
 use Rattle.wal.specs.declared.record.Record.{Record}
 use Rattle.publication.specs.Publications.{PublicationSet}
 use Rattle.publication.specs.Selection.{relation}
-use Rattle.pgoutput.specs.declared.word.Keepalive.{Keepalive}
+use Rattle.pgoutput.specs.declared.copy_both_message.Keepalive.{Keepalive}
 use Rattle.pgoutput.specs.declared.published.Published.{Published}
 use Rattle.pgoutput.specs.Words.{word_bytes, frames_of}
 use Rattle.pgoutput.specs.Items.{Item, KeepaliveItem, Block, keepalive_word, item_words, words_of, bytes_of_items, transactions_of, relations_sent_by_all, relations_sent_through, FitsPublished, FitsItem, FitItems}

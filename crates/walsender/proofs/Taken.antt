@@ -9,8 +9,8 @@ use Rattle.pgoutput.specs.Items.{FitsPublished, bytes_of_items, relations_sent_t
 use Rattle.reorder.specs.Chunks.{IsTidy, held_with}
 use Rattle.reorder.specs.Pool.{IsLent, StaysLent}
 use Rattle.reorder.specs.Ready.{ReadyState}
-use Rattle.reorder.specs.declared.ready.Step.{Step}
-use Rattle.reorder.specs.declared.ready.Step.TheVariants as steps
+use Rattle.reorder.specs.declared.ready.RecordOutcome.{RecordOutcome}
+use Rattle.reorder.specs.declared.ready.RecordOutcome.TheVariants as steps
 use Rattle.reorder.specs.Settled.{AreLentIn, FillsReady, after_giving_all_back}
 use Rattle.reorder.specs.Taking.{HasTaken, IsStepApart, IsStepHeld, MayCome, ReorderState, Takes, readied_changes}
 use Rattle.reorder.proofs.Filling.{tidy_more, tidy_quiet}
@@ -33,24 +33,24 @@ takes_settled old new last ws r ready are takes then = record {
 }
 
 -- what is ready with it lies in the arena
-pub lent_step : (old new : ReorderState) (ws : List ReadyState) (step : Step) → AreLentIn old ws → StaysLent old.strands.pool new.strands.pool → IsStepHeld new step
+pub lent_step : (old new : ReorderState) (ws : List ReadyState) (step : RecordOutcome) → AreLentIn old ws → StaysLent old.strands.pool new.strands.pool → IsStepHeld new step
     → ((lent : List (ℕ × Option ℕ)) → IsLent old.strands.pool lent → IsStepApart step lent) → AreLentIn new (ready_states_with ws step)
 lent_step old new ws steps.Quiet are stays held apart = (entries_lent old new ws are stays).0
 lent_step old new ws (steps.Ready ready) are stays held apart = lent_more old new ws ready are (entries_lent old new ws are stays).0 held apart
 
-pub tidy_step : (old new : ReorderState) (ws : List ReadyState) (step : Step) (count : ℕ) → AreLentIn old ws → AreLentIn new (ready_states_with ws step)
+pub tidy_step : (old new : ReorderState) (ws : List ReadyState) (step : RecordOutcome) (count : ℕ) → AreLentIn old ws → AreLentIn new (ready_states_with ws step)
     → ((n : ℕ) (held : List ReadyState) → IsTidy n held old.strands → IsTidy n (held_with held step) new.strands) → IsTidy count [] (after_giving_all_back old ws).strands → IsTidy count [] (after_giving_all_back new (ready_states_with ws step)).strands
 tidy_step old new ws steps.Quiet count before after takes tidy = tidy_quiet old new ws count before after takes tidy
 tidy_step old new ws (steps.Ready ready) count before after takes tidy = tidy_more old new ws ready count before after takes tidy
 
 -- what makes nothing ready is quiet
-pub quiet_of : (s : ReorderState) (step : Step) → readied_changes s step ≡ None → step ≡ steps.Quiet
+pub quiet_of : (s : ReorderState) (step : RecordOutcome) → readied_changes s step ≡ None → step ≡ steps.Quiet
 quiet_of s steps.Quiet none = refl
 quiet_of s (steps.Ready ready) none = let never = none in cc
 
 -- ---- a record that was read
 
-pub read_one : (clock : ℤ) (selection : PublicationSet) (start position end : ℕ) (failed : Bool) (r : Record) (old mid new : ReorderState) (o o' : Outgoing) (step : Step) → AreLentIn old (ready_states o.waiting.items) → Keeps selection old mid o
+pub read_one : (clock : ℤ) (selection : PublicationSet) (start position end : ℕ) (failed : Bool) (r : Record) (old mid new : ReorderState) (o o' : Outgoing) (step : RecordOutcome) → AreLentIn old (ready_states o.waiting.items) → Keeps selection old mid o
     → Takes old mid r (readied_changes mid step) → end ≡ r.end → Grows selection clock (published_by_record selection start r (readied_changes mid step)) (Ok tt) mid new o o'
     → AllByRecursion (FitsPublished (relation selection)) (published_by_record selection start r (readied_changes mid step)) → ((rs : List Record) → HasTaken mid rs → HasTaken (settled_of new o') rs)
     → ((rs : List Record) → HasTaken old rs → MayCome rs r.body → FillsReady mid step)

@@ -10,12 +10,12 @@ use Rattle.reorder.specs.Ready.{ReadyState}
 use Rattle.walsender.specs.declared.commit_frames.header.Header.{Header}
 use Rattle.reorder.specs.Chunks.{IsTidy, live_chunks}
 use Rattle.reorder.specs.Settled.{AreLentIn, after_giving_all_back, lent_chunks, ready_chunks}
-use Rattle.reorder.specs.declared.ready.Step.{Step}
-use Rattle.reorder.specs.declared.ready.Step.TheVariants as steps
+use Rattle.reorder.specs.declared.ready.RecordOutcome.{RecordOutcome}
+use Rattle.reorder.specs.declared.ready.RecordOutcome.TheVariants as steps
 use Rattle.chgarena.specs.Strands.{Strands as Arena}
 use Rattle.reorder.specs.Taking.{HasTaken, ReorderState}
 use Rattle.wal.specs.declared.record.Record.{Record}
-use Rattle.walsender.specs.Waiting.{AreSelected, AreWithin, begin_bytes, bytes_behind, places, ready_states, sent_behind}
+use Rattle.walsender.specs.Waiting.{AreSelected, AreWithin, begin_bytes, bytes_after, places, ready_states, sent_after}
 use Rattle.walsender.specs.Lent.{AreLastOf, LentTransaction, lent_with}
 use Rattle.walsender.specs.declared.held.outgoing.Outgoing.{Outgoing}
 use Rattle.walsender.specs.declared.held.committed_transaction.CommittedTransaction.{CommittedTransaction}
@@ -27,7 +27,7 @@ frames_left o = take (o.to - o.from) (drop o.from o.frames.items)
 
 -- what is held after those frames
 abbrev pub held_behind : PublicationSet → ReorderState → Outgoing → List ℕ
-held_behind selection s o = bytes_behind selection s.strands.pool (reverse o.relations_sent.items) o.made.items o.waiting.items
+held_behind selection s o = bytes_after selection s.strands.pool (reverse o.relations_sent.items) o.made.items o.waiting.items
 
 -- all that is held
 abbrev pub held_of : PublicationSet → ReorderState → Outgoing → List ℕ
@@ -35,7 +35,7 @@ held_of selection s o = o.front.items ++ (frames_left o ++ held_behind selection
 
 -- the tables whose Relation was sent, the newest first, once all that is held is sent too
 abbrev pub sent_of : PublicationSet → ReorderState → Outgoing → List ℕ
-sent_of selection s o = sent_behind selection s.strands.pool (reverse o.relations_sent.items) o.waiting.items
+sent_of selection s o = sent_after selection s.strands.pool (reverse o.relations_sent.items) o.waiting.items
 
 -- the regrouping as it is once all that is held has gone out
 abbrev pub settled_of : ReorderState → Outgoing → ReorderState
@@ -58,7 +58,7 @@ abbrev pub lent_of : ReorderState → Outgoing → List LentTransaction
 lent_of s o = map (lent_in s.strands.pool.arena) o.waiting.items
 
 -- those of which a record sends the published one, by what it made ready
-abbrev pub lent_by_step : List Published → ReorderState → Step → List LentTransaction
+abbrev pub lent_by_step : List Published → ReorderState → RecordOutcome → List LentTransaction
 lent_by_step ts s steps.Quiet = []
 lent_by_step ts s (steps.Ready ready) = map (lent_with (ready_chunks s.strands.pool.arena ready)) ts
 

@@ -12,8 +12,8 @@ use Rattle.pgoutput.specs.Words.{frames_of, word_bytes}
 use Rattle.pgoutput.specs.Items.{changes_words, is_relation_sent, relations_sent_by_all, xlogdata_word}
 use Rattle.reorder.specs.Pool.{PoolState}
 use Rattle.reorder.specs.Ready.{ReadyState, ready_entries}
-use Rattle.reorder.specs.declared.ready.Step.{Step}
-use Rattle.reorder.specs.declared.ready.Step.TheVariants as steps
+use Rattle.reorder.specs.declared.ready.RecordOutcome.{RecordOutcome}
+use Rattle.reorder.specs.declared.ready.RecordOutcome.TheVariants as steps
 use Rattle.walsender.specs.Published.{published_changes}
 use Rattle.walsender.specs.Spelled.{begin_with, commit_with}
 use Rattle.walsender.specs.declared.commit_frames.header.Header.{Header}
@@ -38,16 +38,16 @@ abbrev pub bytes_left : PublicationSet → PoolState → List ℕ → CommittedT
 bytes_left selection pool sent w = changes_bytes selection sent w.clock (left_of selection pool w) ++ commit_bytes w.clock w.header
 
 -- All bytes of transactions that wait and of what stands between them: each one's changes come after so many of the bytes that are made.
-abbrev pub bytes_behind : PublicationSet → PoolState → (sent made : List ℕ) → List CommittedTransaction → List ℕ
-bytes_behind selection pool sent made [] = made
-bytes_behind selection pool sent made (w ∷ ws) =
+abbrev pub bytes_after : PublicationSet → PoolState → (sent made : List ℕ) → List CommittedTransaction → List ℕ
+bytes_after selection pool sent made [] = made
+bytes_after selection pool sent made (w ∷ ws) =
     take w.before made
-    ++ (bytes_left selection pool sent w ++ bytes_behind selection pool (relations_sent_by_all sent (left_of selection pool w)) (drop w.before made) ws)
+    ++ (bytes_left selection pool sent w ++ bytes_after selection pool (relations_sent_by_all sent (left_of selection pool w)) (drop w.before made) ws)
 
 -- the tables whose Relation was sent, once they are sent too
-abbrev pub sent_behind : PublicationSet → PoolState → List ℕ → List CommittedTransaction → List ℕ
-sent_behind selection pool sent [] = sent
-sent_behind selection pool sent (w ∷ ws) = sent_behind selection pool (relations_sent_by_all sent (left_of selection pool w)) ws
+abbrev pub sent_after : PublicationSet → PoolState → List ℕ → List CommittedTransaction → List ℕ
+sent_after selection pool sent [] = sent
+sent_after selection pool sent (w ∷ ws) = sent_after selection pool (relations_sent_by_all sent (left_of selection pool w)) ws
 
 -- Of so many bytes that are made, each one's changes have those in front of them that are theirs.
 abbrev pub AreWithin : ℕ → List CommittedTransaction → Type 0
@@ -64,7 +64,7 @@ abbrev pub ready_states : List CommittedTransaction → List ReadyState
 ready_states ws = map (λ w. w.ready) ws
 
 -- what is ready, with what a record made ready after it
-abbrev pub ready_states_with : List ReadyState → Step → List ReadyState
+abbrev pub ready_states_with : List ReadyState → RecordOutcome → List ReadyState
 ready_states_with rs steps.Quiet = rs
 ready_states_with rs (steps.Ready ready) = rs ++ ready ∷ []
 

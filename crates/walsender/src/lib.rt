@@ -27,5 +27,5 @@ pub use section::a_section_may_be_fed;
 pub use sender::Sender;
 pub use stream_turn::limits::TURN_RECORDS;
 pub use stream_turn::turn_fault::TurnFault;
-pub use stream_turn::turning::turn;
+pub use stream_turn::turning::{turn, write_front};
 pub use walsender::Walsender;

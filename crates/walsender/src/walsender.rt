@@ -8,7 +8,7 @@ ghost use Rattle.wal.specs.declared.record.Record.{Record};
 ghost use Rattle.wal.specs.Log.{IsWellFormedLog};
 ghost use Rattle.pgoutput.specs.Words.{word_bytes};
 ghost use Rattle.pgoutput.specs.Items.{keepalive_word};
-ghost use Rattle.shared_log.specs.Fronts.{settled_records};
+ghost use Rattle.shared_log.specs.SeenPrefixes.{settled_records};
 ghost use Rattle.shared_log.specs.Readers.{HasSeen, seen_of};
 ghost use Rattle.shared_log.specs.declared.fault.ReadFault.{ReadFault};
 ghost use Rattle.walsender.specs.Faults.{fault_of_fetch, has_fetched, has_written};

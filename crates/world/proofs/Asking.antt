@@ -5,8 +5,8 @@ use Rattle.std.proofs.lemmas.List.{map-set}
 use Rattle.std.proofs.lemmas.Option.{slice_get_read, slice_get_within}
 use Rattle.std.proofs.Math.Seq.{map-set_same}
 use Rattle.wal.specs.declared.record.Record.{Record}
-use Rattle.schedule.specs.declared.printed.answer.Answer.{Answer}
-use Rattle.schedule.specs.declared.printed.answer.Answer.TheVariants as answers
+use Rattle.world.specs.declared.printed.answer.Answer.{Answer}
+use Rattle.world.specs.declared.printed.answer.Answer.TheVariants as answers
 use Rattle.schedule.specs.declared.fault.WorldFault.{WorldFault}
 use Rattle.world.specs.declared.stepping.action.Action.{Action}
 use Rattle.world.specs.declared.stepping.action.Action.TheVariants as actions

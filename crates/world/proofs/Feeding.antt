@@ -21,8 +21,8 @@ use Rattle.client.specs.Subscriber.{Subscriber, subscriber_at_rest}
 use Rattle.client.specs.Taking.{ApplierState, HasTaken, Takes, TakesFrom}
 use Rattle.client.specs.Law.{Ends, Gained}
 use Rattle.client.proofs.Reaching.{reached_none}
-use Rattle.schedule.specs.declared.printed.answer.Answer.{Answer}
-use Rattle.schedule.specs.declared.printed.answer.Answer.TheVariants as answers
+use Rattle.world.specs.declared.printed.answer.Answer.{Answer}
+use Rattle.world.specs.declared.printed.answer.Answer.TheVariants as answers
 use Rattle.world.specs.Start.{StartState}
 use Rattle.world.specs.Acting.{read_by}
 use Rattle.world.specs.State.{SubscriberState, in_pipe}

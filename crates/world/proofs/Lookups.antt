@@ -69,9 +69,9 @@ with_other c d (t ∷ ss) new other named = by_test (bytes_eq t.connection d) re
         rw (first, second) refl
     by_test false here later = ap (λ (o : Option SubscriberState). cond (bytes_eq t.connection c) (Some t) o) later
 
-pub one_behind : (c : List ℕ) (ss : List SubscriberState) (new : SubscriberState) → subscriber_of c ss ≡ None → new.connection ≡ c → subscriber_of c (ss ++ new ∷ []) ≡ Some new
-one_behind c [] new none named = rw (named_so new.connection c named) refl
-one_behind c (t ∷ ss) new none named = by_test (bytes_eq t.connection c) none (λ later. one_behind c ss new later named)
+pub one_after : (c : List ℕ) (ss : List SubscriberState) (new : SubscriberState) → subscriber_of c ss ≡ None → new.connection ≡ c → subscriber_of c (ss ++ new ∷ []) ≡ Some new
+one_after c [] new none named = rw (named_so new.connection c named) refl
+one_after c (t ∷ ss) new none named = by_test (bytes_eq t.connection c) none (λ later. one_after c ss new later named)
   where
     by_test : (b : Bool) → cond b (Some t) (subscriber_of c ss) ≡ None → (subscriber_of c ss ≡ None → subscriber_of c (ss ++ new ∷ []) ≡ Some new) → cond b (Some t) (subscriber_of c (ss ++ new ∷ [])) ≡ Some new
     by_test true none later = absurd cc
@@ -138,17 +138,17 @@ start_other c d (t ∷ starts) new other named = by_test (is_open_for d t) refl 
         rw (not_open_for c d new other named, not_open_for c d t other of) refl
     by_test false here later = ap (λ (o : Option StartState). cond (is_open_for c t) (Some t) o) later
 
-pub start_behind : (c : List ℕ) (starts : List StartState) (new : StartState) → open_start c starts ≡ None → is_open_for c new ≡ true → open_start c (starts ++ new ∷ []) ≡ Some new
-start_behind c [] new none opened = rw opened refl
-start_behind c (t ∷ starts) new none opened = by_test (is_open_for c t) none (λ later. start_behind c starts new later opened)
+pub start_after : (c : List ℕ) (starts : List StartState) (new : StartState) → open_start c starts ≡ None → is_open_for c new ≡ true → open_start c (starts ++ new ∷ []) ≡ Some new
+start_after c [] new none opened = rw opened refl
+start_after c (t ∷ starts) new none opened = by_test (is_open_for c t) none (λ later. start_after c starts new later opened)
   where
     by_test : (b : Bool) → cond b (Some t) (open_start c starts) ≡ None → (open_start c starts ≡ None → open_start c (starts ++ new ∷ []) ≡ Some new) → cond b (Some t) (open_start c (starts ++ new ∷ [])) ≡ Some new
     by_test true none later = absurd cc
     by_test false none later = later none
 
-pub start_other_behind : (c : List ℕ) (starts : List StartState) (new : StartState) → is_open_for c new ≡ false → open_start c (starts ++ new ∷ []) ≡ open_start c starts
-start_other_behind c [] new other = rw other refl
-start_other_behind c (t ∷ starts) new other = ap (λ (o : Option StartState). cond (is_open_for c t) (Some t) o) (start_other_behind c starts new other)
+pub start_other_after : (c : List ℕ) (starts : List StartState) (new : StartState) → is_open_for c new ≡ false → open_start c (starts ++ new ∷ []) ≡ open_start c starts
+start_other_after c [] new other = rw other refl
+start_other_after c (t ∷ starts) new other = ap (λ (o : Option StartState). cond (is_open_for c t) (Some t) o) (start_other_after c starts new other)
 
 -- ---- A connection has one open start at most.
 
@@ -188,14 +188,14 @@ alone_other c d (t ∷ starts) new other named alone = by_test (is_open_for d t)
     by_test true later = (λ opened. let never : true ≡ false = sym opened ∙ not_open_for c d new other named in absurd cc, alone.1)
     by_test false later = (λ opened. start_other c d starts new other named ∙ alone.0 opened, later)
 
-pub alone_behind : (c : List ℕ) (starts : List StartState) (new : StartState) → open_start c starts ≡ None → IsAlone c (starts ++ new ∷ [])
-alone_behind c [] new none = (λ _. refl, tt)
-alone_behind c (t ∷ starts) new none = by_test (is_open_for c t) refl none (alone_behind c starts new)
+pub alone_after : (c : List ℕ) (starts : List StartState) (new : StartState) → open_start c starts ≡ None → IsAlone c (starts ++ new ∷ [])
+alone_after c [] new none = (λ _. refl, tt)
+alone_after c (t ∷ starts) new none = by_test (is_open_for c t) refl none (alone_after c starts new)
   where
     by_test : (b : Bool) → is_open_for c t ≡ b → cond b (Some t) (open_start c starts) ≡ None → (open_start c starts ≡ None → IsAlone c (starts ++ new ∷ [])) → IsAlone c (t ∷ (starts ++ new ∷ []))
     by_test true here none later = absurd cc
     by_test false here none later = (λ opened. let never : true ≡ false = sym opened ∙ here in absurd cc, later none)
 
-pub alone_other_behind : (c : List ℕ) (starts : List StartState) (new : StartState) → is_open_for c new ≡ false → IsAlone c starts → IsAlone c (starts ++ new ∷ [])
-alone_other_behind c [] new other alone = (λ _. refl, tt)
-alone_other_behind c (t ∷ starts) new other alone = (λ opened. start_other_behind c starts new other ∙ alone.0 opened, alone_other_behind c starts new other alone.1)
+pub alone_other_after : (c : List ℕ) (starts : List StartState) (new : StartState) → is_open_for c new ≡ false → IsAlone c starts → IsAlone c (starts ++ new ∷ [])
+alone_other_after c [] new other alone = (λ _. refl, tt)
+alone_other_after c (t ∷ starts) new other alone = (λ opened. start_other_after c starts new other ∙ alone.0 opened, alone_other_after c starts new other alone.1)

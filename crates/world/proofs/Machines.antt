@@ -6,25 +6,25 @@ use Rattle.std.proofs.lemmas.Option.{slice_get-map, slice_get_read, slice_get_wi
 use Rattle.std.proofs.lemmas.List.{length-map, map-append, map-set}
 use Rattle.wal.specs.declared.record.Record.{Record}
 use Rattle.walsender.specs.declared.fault.SendFault.TheVariants as sends
-use Rattle.schedule.specs.declared.printed.answer.Answer.{Answer}
-use Rattle.schedule.specs.declared.printed.answer.Answer.TheVariants as answers
+use Rattle.world.specs.declared.printed.answer.Answer.{Answer}
+use Rattle.world.specs.declared.printed.answer.Answer.TheVariants as answers
 use Rattle.schedule.specs.declared.fault.WorldFault.{WorldFault}
 use Rattle.schedule.specs.declared.event.Event.{Event}
 use Rattle.schedule.specs.declared.event.Event.TheVariants as events
 use Rattle.world.specs.declared.stepping.action.Action.{Action}
 use Rattle.world.specs.declared.stepping.action.Action.TheVariants as actions
 use Rattle.world.specs.declared.stepping.start.Start.{Start}
-use Rattle.world.specs.declared.stepping.start.Stage.{Stage}
-use Rattle.world.specs.declared.stepping.start.Stage.TheVariants as stages
+use Rattle.world.specs.declared.stepping.start.StartStage.{StartStage}
+use Rattle.world.specs.declared.stepping.start.StartStage.TheVariants as stages
 use Rattle.world.specs.declared.machine.Machine.{Machine}
 use Rattle.world.specs.Start.{StartState, running_count}
 use Rattle.world.specs.State.{SubscriberState, WorldState}
-use Rattle.schedule.specs.SessionLines.{IsLine}
+use Rattle.schedule.specs.SessionLines.{ask_of}
 use Rattle.schedule.specs.Sessions.{Grows}
 use Rattle.slots.specs.State.{SlotsState}
 use Rattle.world.specs.Acting.{Acts}
 use Rattle.world.specs.ConnectionLines.{slots_after, subscribers_after}
-use Rattle.world.specs.Steps.{IsStep, session_state}
+use Rattle.world.specs.Steps.{IsLineOf, IsStep}
 use Rattle.world.specs.Starts.{IsServed, is_open, start_state, state_with}
 use Rattle.world.specs.Machine.{ActsIn, IsMachine, IsOpenAt, IsOpenStartAt, open_places, without_place}
 use Rattle.world.proofs.Sections.{grown_served}
@@ -42,15 +42,15 @@ all_grown old new cs grows all = let P : List Record → Type 0 = λ l. AllByRec
 -- ---- a session's line
 
 -- a line's call is its event, where nothing else has changed
-pub called_step : (e : Event) (old new : WorldState) (r : Result Answer WorldFault) → IfOk r (λ a. IsLine e (session_state old) a (session_state new))
+pub called_step : (e : Event) (old new : WorldState) (r : Result Answer WorldFault) → IfOk r (λ a. IsLineOf (ask_of e old.publisher old.transactions) old a new)
     → new ≡ record old { publisher = new.publisher; transactions = new.transactions } → IfOk r (λ a. IsStep old e a new)
 called_step e old new (Err fault) calls is = tt
 called_step (events.Session t s) old new (Ok a) calls is = record { called = calls; is = is }
 called_step (events.Note prefix content) old new (Ok a) calls is = record { called = calls; is = is }
-called_step (events.Connection c s) old new (Ok a) calls is = absurd calls
-called_step (events.Slot name) old new (Ok a) calls is = absurd calls
-called_step events.Forget old new (Ok a) calls is = absurd calls
-called_step events.Front old new (Ok a) calls is = absurd calls
+called_step (events.Connection c s) old new (Ok a) calls is = absurd calls.2
+called_step (events.Slot name) old new (Ok a) calls is = absurd calls.2
+called_step events.Forget old new (Ok a) calls is = absurd calls.2
+called_step events.Front old new (Ok a) calls is = absurd calls.2
 
 -- ---- a connection's line
 
@@ -93,7 +93,7 @@ is_closed log old new answers.Removed acts = absurd acts
 is_closed log old new (answers.Front place) acts = absurd acts
 is_closed log old new (answers.Subscriber fault) acts = absurd acts
 
-pub open_shown : {L : Type 0} (connection produced : List ℕ) (w : Stage L) → is_open w ≡ true → (state_with connection produced w).is_open ≡ true
+pub open_shown : {L : Type 0} (connection produced : List ℕ) (w : StartStage L) → is_open w ≡ true → (state_with connection produced w).is_open ≡ true
 open_shown connection produced (stages.Open s) is = refl
 open_shown connection produced (stages.Cut e) is = is
 
@@ -139,7 +139,7 @@ found_more cs new places more s n new_is more_is n_is opened found =
 
 -- ---- readers
 
-closed_shown : {L : Type 0} (connection produced : List ℕ) (w : Stage L) → is_open w ≡ false → (state_with connection produced w).is_open ≡ false
+closed_shown : {L : Type 0} (connection produced : List ℕ) (w : StartStage L) → is_open w ≡ false → (state_with connection produced w).is_open ≡ false
 closed_shown connection produced (stages.Open s) is = is
 closed_shown connection produced (stages.Cut e) is = refl
 

@@ -10,8 +10,8 @@ use Rattle.wal.proofs.Laws.{all_when}
 use Rattle.publication.specs.Publications.{PublicationSet}
 use Rattle.txlog.specs.Publishing.{PublisherState, log_end}
 use Rattle.schedule.specs.declared.lines.start_options.StartOptions.{StartOptions}
-use Rattle.schedule.specs.declared.printed.answer.Answer.{Answer}
-use Rattle.schedule.specs.declared.printed.answer.Answer.TheVariants as answers
+use Rattle.world.specs.declared.printed.answer.Answer.{Answer}
+use Rattle.world.specs.declared.printed.answer.Answer.TheVariants as answers
 use Rattle.schedule.specs.declared.event.Event.{Event}
 use Rattle.schedule.specs.declared.event.Event.TheVariants as events
 use Rattle.schedule.specs.declared.event.ConnectionStep.{ConnectionStep}

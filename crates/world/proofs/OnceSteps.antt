@@ -11,8 +11,8 @@ use Rattle.pgoutput.specs.declared.published.Published.{Published}
 use Rattle.pgoutput.proofs.Lists.{all_of_both}
 use Rattle.walsender.specs.declared.fault.SendFault.TheVariants as sends
 use Rattle.schedule.specs.declared.lines.start_options.StartOptions.{StartOptions}
-use Rattle.schedule.specs.declared.printed.answer.Answer.{Answer}
-use Rattle.schedule.specs.declared.printed.answer.Answer.TheVariants as answers
+use Rattle.world.specs.declared.printed.answer.Answer.{Answer}
+use Rattle.world.specs.declared.printed.answer.Answer.TheVariants as answers
 use Rattle.schedule.specs.declared.event.ConnectionStep.{ConnectionStep}
 use Rattle.schedule.specs.declared.event.ConnectionStep.TheVariants as steps
 use Rattle.slots.specs.State.{SlotsState}
@@ -191,8 +191,8 @@ other_started c s d slot position wanted old other apart all =
       publications = refl;
       confirmed = taken_same s slot old.slots;
       others = joined.0;
-      alone = λ alone. look.alone_other_behind c old.starts start not_open alone;
-      started = look.start_other_behind c old.starts start not_open;
+      alone = λ alone. look.alone_other_after c old.starts start not_open alone;
+      started = look.start_other_after c old.starts start not_open;
       known = joined.1;
     }
 

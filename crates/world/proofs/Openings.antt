@@ -5,8 +5,8 @@ use Rattle.std.specs.Str.{bytes_eq}
 use Rattle.std.proofs.lemmas.Bool.{eq-eqb, ne_eqb}
 use Rattle.std.proofs.lemmas.List.{length-append}
 use Rattle.world.specs.declared.stepping.start.Start.{Start}
-use Rattle.world.specs.declared.stepping.start.Stage.{Stage}
-use Rattle.world.specs.declared.stepping.start.Stage.TheVariants as stages
+use Rattle.world.specs.declared.stepping.start.StartStage.{StartStage}
+use Rattle.world.specs.declared.stepping.start.StartStage.TheVariants as stages
 use Rattle.world.specs.Start.{StartState, is_open_for}
 use Rattle.world.specs.State.{open_start}
 use Rattle.world.specs.Starts.{start_state, state_with, is_open}
@@ -24,7 +24,7 @@ no_sooner name (s ∷ starts) at p e = by_test (is_open_for name s) e (no_sooner
     by_test true e later = omega (arith, same_inside at p e)
     by_test false e later = omega (arith, later e)
 
-opened : {L : Type 0} (name n produced : List ℕ) (w : Stage L) → is_open_for name (state_with n produced w) ≡ true → is_open w ≡ true
+opened : {L : Type 0} (name n produced : List ℕ) (w : StartStage L) → is_open_for name (state_with n produced w) ≡ true → is_open w ≡ true
 opened name n produced (stages.Open s) e = refl
 opened name n produced (stages.Cut s) e = let closed = (both_true (bytes_eq n name) false e).1 in absurd cc
 
@@ -57,9 +57,9 @@ is_found_alike name (s ∷ starts) at = by_test (is_open_for name s) (is_found_a
 
 -- ---- among the open ones alone
 
-get_behind : (pre starts : List StartState) (s : StartState) → slice_get (pre ++ s ∷ starts) (length pre) ≡ Some s
-get_behind [] starts s = refl
-get_behind (p ∷ pre) starts s = get_behind pre starts s
+get_after : (pre starts : List StartState) (s : StartState) → slice_get (pre ++ s ∷ starts) (length pre) ≡ Some s
+get_after [] starts s = refl
+get_after (p ∷ pre) starts s = get_after pre starts s
 
 same_place : (name : List ℕ) (pre starts : List StartState) → place_among name (pre ++ starts) (open_places (length pre) starts) ≡ start_place (length pre) name starts
 same_place name pre [] = refl
@@ -76,7 +76,7 @@ same_place name pre (s ∷ starts) = by_test (same_place name (pre ++ s ∷ []) 
         subst P longer (subst Q (append_assoc pre (s ∷ []) starts) inner)
 
     here : is_for name (slice_get (pre ++ s ∷ starts) (length pre)) ≡ is_open_for name s
-    here = ap (is_for name) (get_behind pre starts s)
+    here = ap (is_for name) (get_after pre starts s)
 
     closed : (b : Bool) → s.is_open ≡ false → is_open_for name s ≡ b → b ≡ false
     closed false shut is = refl

@@ -26,9 +26,9 @@ pub in_order_from : (early from to : ℕ) (ts : List Published) → early ≤ fr
 in_order_from early from to [] le order = omega (arith, le, order)
 in_order_from early from to (t ∷ ts) le order = (omega (arith, le, order.0), order.1, order.2)
 
-pub in_order_behind : (from mid to : ℕ) (ts us : List Published) → InOrder from mid ts → InOrder mid to us → InOrder from to (ts ++ us)
-in_order_behind from mid to [] us first second = in_order_from from mid to us first second
-in_order_behind from mid to (t ∷ ts) us first second = (first.0, first.1, in_order_behind t.end mid to ts us first.2 second)
+pub in_order_after : (from mid to : ℕ) (ts us : List Published) → InOrder from mid ts → InOrder mid to us → InOrder from to (ts ++ us)
+in_order_after from mid to [] us first second = in_order_from from mid to us first second
+in_order_after from mid to (t ∷ ts) us first second = (first.0, first.1, in_order_after t.end mid to ts us first.2 second)
 
 pub in_order_within : (from to : ℕ) (ts : List Published) → InOrder from to ts → from ≤ to
 in_order_within from to [] order = order
@@ -109,7 +109,7 @@ in_order selection s at before (r ∷ rs) goes sized =
     let next = followed at r rs goes in
     let one = one_in_order selection s before r (omega (arith, sized.0)) in
     let rest = in_order selection s r.end (before ++ r ∷ []) rs next.1 sized.1 in
-    let both = in_order_behind r.start r.end (end_of r.end rs) (published_from selection s before (r ∷ [])) (published_from selection s (before ++ r ∷ []) rs) one rest in
+    let both = in_order_after r.start r.end (end_of r.end rs) (published_from selection s before (r ∷ [])) (published_from selection s (before ++ r ∷ []) rs) one rest in
     let Whole : List Published → Type 0 = λ ts. InOrder r.start (end_of r.end rs) ts in
     let Begins : ℕ → Type 0 = λ n. InOrder n (end_of r.end rs) (published_from selection s before (r ∷ rs)) in
     subst Begins next.0 (subst Whole (sym (published_from-append selection s before (r ∷ []) rs)) both)

@@ -10,7 +10,7 @@ use Rattle.copyboth.specs.declared.status.Status.{Status}
 use Rattle.pgoutput.specs.declared.published.Published.{Published}
 use Rattle.pgoutput.proofs.Lists.{all_of_both}
 use Rattle.schedule.specs.declared.lines.start_options.StartOptions.{StartOptions}
-use Rattle.schedule.specs.declared.printed.answer.Answer.{Answer}
+use Rattle.world.specs.declared.printed.answer.Answer.{Answer}
 use Rattle.schedule.specs.declared.event.ConnectionStep.{ConnectionStep}
 use Rattle.schedule.specs.declared.event.ConnectionStep.TheVariants as steps
 use Rattle.slots.specs.State.{NamedSlot, SlotsState, confirmed_of, slot_of}
@@ -211,7 +211,7 @@ own_started log c s wanted from position begun old once none asked = by_known (s
     within = omega (arith, once.within, confirmed_is s old.slots once.confirmed once.slot, asked)
 
     begins : open_start c starts ≡ Some start
-    begins = look.start_behind c old.starts start none (look.open_for c start refl refl)
+    begins = look.start_after c old.starts start none (look.open_for c start refl refl)
 
     by_known : (p : Option SubscriberState) → subscriber_of c old.subscribers ≡ p
         → IsOnce log c s wanted from here (record old { slots = slots_after_taking (Some s) old.slots; starts = starts; subscribers = if_there p c (Some s) old.subscribers })
@@ -220,7 +220,7 @@ own_started log c s wanted from position begun old once none asked = by_known (s
         let rested : IsAtRest fresh = record { applier = refl; slot = refl; delivered = refl; back = refl } in
         let settled = settled_new log from (wanted_of wanted old.publications) fresh.applier.subscriber refl refl in
         let fed = fed_begun log from (wanted_of wanted old.publications) s here start fresh (stands known) refl refl later (omega (arith, within, ap position_in known)) settled rested in
-        let found = look.one_behind c old.subscribers (new_subscriber c (Some s)) known refl in
+        let found = look.one_after c old.subscribers (new_subscriber c (Some s)) known refl in
         let new : WorldState = record old { slots = slots_after_taking (Some s) old.slots; starts = starts; subscribers = old.subscribers ++ new_subscriber c (Some s) ∷ [] } in
         record {
           confirmed = once.confirmed;
@@ -228,7 +228,7 @@ own_started log c s wanted from position begun old once none asked = by_known (s
           reaches = once.reaches;
           within = omega (arith, once.within, ap position_in known, ap position_in found);
           others = all_of_both (IsNotOn c s) old.subscribers (new_subscriber c (Some s) ∷ []) once.others (λ else on. other_name c c else refl, tt);
-          alone = look.alone_behind c old.starts start none;
+          alone = look.alone_after c old.starts start none;
           mine = mine_so log c s wanted from here new (Some start) (Some (new_subscriber c (Some s))) (settled, fed) begins found;
         }
     by_known (Some sub) known =
@@ -243,7 +243,7 @@ own_started log c s wanted from position begun old once none asked = by_known (s
           reaches = once.reaches;
           within = omega (arith, once.within, ap position_in known, ap position_in found);
           others = own_subscriber c s old.subscribers (record sub { slot = Some s }) once.others named;
-          alone = look.alone_behind c old.starts start none;
+          alone = look.alone_after c old.starts start none;
           mine = mine_so log c s wanted from here new (Some start) (Some (record sub { slot = Some s })) (mine.0, fed) begins found;
         }
 

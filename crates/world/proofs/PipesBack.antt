@@ -5,7 +5,7 @@ use Rattle.std.proofs.lemmas.Option.{slice_get_read, slice_get_within}
 use Rattle.std.proofs.Math.Seq.{map-set_same}
 use Rattle.copyboth.specs.declared.status.Status.{Status}
 use Rattle.slots.specs.State.{SlotsState}
-use Rattle.schedule.specs.declared.printed.answer.Answer.TheVariants as answers
+use Rattle.world.specs.declared.printed.answer.Answer.TheVariants as answers
 use Rattle.world.specs.declared.machine.Machine.{Machine}
 use Rattle.world.specs.declared.stepping.start.Start.{Start}
 use Rattle.world.specs.declared.subscriber.Subscriber.{Subscriber}

@@ -9,9 +9,9 @@ use Rattle.pgoutput.specs.declared.messages.relation.Relation.{Relation}
 use Rattle.pgoutput.specs.declared.messages.message.Message.{Message}
 use Rattle.pgoutput.specs.declared.logical.Logical.{Logical}
 use Rattle.pgoutput.specs.declared.logical.Logical.TheVariants as logical
-use Rattle.pgoutput.specs.declared.word.Word.{Word}
-use Rattle.pgoutput.specs.declared.word.Word.TheVariants as words
-use Rattle.pgoutput.specs.declared.word.Keepalive.{Keepalive}
+use Rattle.pgoutput.specs.declared.copy_both_message.CopyBothMessage.{CopyBothMessage}
+use Rattle.pgoutput.specs.declared.copy_both_message.CopyBothMessage.TheVariants as words
+use Rattle.pgoutput.specs.declared.copy_both_message.Keepalive.{Keepalive}
 use Rattle.client.specs.declared.fault.ClientFault.{ClientFault}
 use Rattle.client.specs.declared.fault.ClientFault.TheVariants.{CommitEnd, Order}
 use Rattle.client.specs.Subscriber.{HalfTransaction, Subscriber, after_begin, after_change, after_commit, after_end, after_keepalive, after_logical_message, after_message, after_note, after_relation, after_transaction, after_word, after_words, judgement_of_change, note_of, tables_with_relation, with_change}
@@ -76,11 +76,11 @@ message_on s t start end (logical.Update m) is = changed_on s.half s t start (lo
 message_on s t start end (logical.Delete m) is = changed_on s.half s t start (logical.Delete m) is
 message_on s t start end (logical.Truncate m) is = changed_on s.half s t start (logical.Truncate m) is
 
-word_on : (s t : Subscriber) (w : Word) → after_word s w ≡ Ok t → s.position ≤ t.position
+word_on : (s t : Subscriber) (w : CopyBothMessage) → after_word s w ≡ Ok t → s.position ≤ t.position
 word_on s t (words.Keepalive k) is = kept_alive_on s.half s t k is
 word_on s t (words.XLogData x) is = message_on s t x.start x.end x.message is
 
-words_on : (s t : Subscriber) (ws : List Word) → after_words s ws ≡ Ok t → s.position ≤ t.position
+words_on : (s t : Subscriber) (ws : List CopyBothMessage) → after_words s ws ≡ Ok t → s.position ≤ t.position
 words_on s t [] is = higher s s t (omega arith) is
 words_on s t (w ∷ ws) is = by_word (after_word s w) refl is (λ u later. words_on u t ws later)
   where

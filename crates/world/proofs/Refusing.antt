@@ -7,8 +7,8 @@ use Rattle.publication_config.specs.declared.fault.PubFault.TheVariants as pubs
 use Rattle.publication.specs.Publications.{PublicationSet}
 use Rattle.publication.specs.Choosing.{conflicts, is_unknown, judgement_of_names, selected_publications}
 use Rattle.slots.specs.declared.fault.SlotFault.TheVariants as slot_faults
-use Rattle.schedule.specs.declared.printed.answer.Answer.{Answer}
-use Rattle.schedule.specs.declared.printed.answer.Answer.TheVariants as answers
+use Rattle.world.specs.declared.printed.answer.Answer.{Answer}
+use Rattle.world.specs.declared.printed.answer.Answer.TheVariants as answers
 use Rattle.walsender.specs.declared.beginning.StartFault.{StartFault}
 use Rattle.walsender.specs.declared.beginning.StartFault.TheVariants as faults
 use Rattle.walsender.specs.Beginning.{AreAsked, fault_of, questions}

@@ -12,13 +12,13 @@ use Rattle.publication.specs.Selection.{relation}
 use Rattle.pgoutput.specs.Stream.{IsStream}
 use Rattle.walsender.specs.Published.{published_transactions}
 use Rattle.walsender.specs.Sending.{SenderState}
-use Rattle.schedule.specs.declared.printed.answer.Answer.{Answer}
+use Rattle.world.specs.declared.printed.answer.Answer.{Answer}
 use Rattle.schedule.specs.declared.event.Event.{Event}
 use Rattle.schedule.specs.declared.fault.WorldFault.{WorldFault}
 use Rattle.schedule.specs.declared.fault.WorldFault.TheVariants as worlds
 use Rattle.world.specs.declared.stepping.start.Start.{Start}
-use Rattle.world.specs.declared.stepping.start.Stage.{Stage}
-use Rattle.world.specs.declared.stepping.start.Stage.TheVariants as stages
+use Rattle.world.specs.declared.stepping.start.StartStage.{StartStage}
+use Rattle.world.specs.declared.stepping.start.StartStage.TheVariants as stages
 use Rattle.world.specs.declared.machine.Machine.{Machine}
 use Rattle.world.specs.State.{WorldState}
 use Rattle.world.specs.Acting.{read_by}
@@ -33,7 +33,7 @@ use Rattle.world.proofs.Positions.{read_by_place}
 read_so_far : (log : List Record) (count : ℕ) (produced : List ℕ) (s : SenderState) → IsWellFormedLog log → IsStreaming log count produced s → take count log ≡ read_by s.position log
 read_so_far log count produced s good t = sym (read_by_place log count good) ∙ ap (λ (p : ℕ). read_by p log) (sym t.at)
 
-exact_by : {L : Type 0} (log : List Record) (connection produced : List ℕ) (w : Stage L) → IsWellFormedLog log → IsServedBy log produced w → IsExact log (state_with connection produced w)
+exact_by : {L : Type 0} (log : List Record) (connection produced : List ℕ) (w : StartStage L) → IsWellFormedLog log → IsServedBy log produced w → IsExact log (state_with connection produced w)
 exact_by log connection produced (stages.Open w) good served =
     let s = w.sender in
     let t = served.streaming in

@@ -11,15 +11,15 @@ use Rattle.walsender.specs.declared.fault.SendFault.{SendFault}
 use Rattle.walsender.specs.declared.fault.SendFault.TheVariants as sends
 use Rattle.walsender.specs.Published.{published_from, published_transactions}
 use Rattle.walsender.specs.Sending.{SenderState, published_bytes, ReadAll, RanOut}
-use Rattle.schedule.specs.declared.printed.answer.Answer.{Answer}
-use Rattle.schedule.specs.declared.printed.answer.Answer.TheVariants as answers
+use Rattle.world.specs.declared.printed.answer.Answer.{Answer}
+use Rattle.world.specs.declared.printed.answer.Answer.TheVariants as answers
 use Rattle.walsender.specs.Serving.{IsServing, Reads, next_records}
 use Rattle.walsender.proofs.ServedSections.{section_front, section_of}
-use Rattle.walsender.proofs.Skipping.{adds_whole, reads_behind}
+use Rattle.walsender.proofs.Skipping.{adds_whole, reads_after}
 use Rattle.walsender.proofs.Serving.{grown, grown_streaming, no_gap, reading}
 use Rattle.world.specs.declared.stepping.action.Action.TheVariants as actions
-use Rattle.world.specs.declared.stepping.start.Stage.{Stage}
-use Rattle.world.specs.declared.stepping.start.Stage.TheVariants as stages
+use Rattle.world.specs.declared.stepping.start.StartStage.{StartStage}
+use Rattle.world.specs.declared.stepping.start.StartStage.TheVariants as stages
 use Rattle.world.specs.Start.{StartState}
 use Rattle.world.specs.Acting.{read_by}
 use Rattle.world.specs.Acting.{unread_records, after_action, after_reading, answer_of, BreaksDown, Acts}
@@ -46,7 +46,7 @@ fed_acts : (log : List Record) (place max : ℕ) (clock : ℤ) (name produced : 
 fed_acts log place max clock name produced s new good serving running still fed =
     let r = reading log place produced s serving running in
     let section = take max (drop place log) in
-    let behind = reads_behind s.selection s.start serving.from place log section (section_of log place max r.streaming.within good) serving.reads_from r.since in
+    let behind = reads_after s.selection s.start serving.from place log section (section_of log place max r.streaming.within good) serving.reads_from r.since in
     let added = adds_whole clock s new.held serving.from place log section behind (fed.after (drop serving.from (take place log)) r.read behind.may).1 in
     read_is log place clock name produced s new section good r.streaming.at fed.selection fed.start fed.position (still ∙ sym running) added.adds
     ∙ ap (λ l. after_reading log clock l (open_state name produced s)) (unread_is log place max s good r.streaming.at)
@@ -57,7 +57,7 @@ broken_acts log place max clock name produced s new good serving running fed =
     let r = reading log place produced s serving running in
     let section = take max (drop place log) in
     let less = section_front log place fed.count section (section_of log place max r.streaming.within good) in
-    let behind = reads_behind s.selection s.start serving.from place log (take fed.count section) less serving.reads_from r.since in
+    let behind = reads_after s.selection s.start serving.from place log (take fed.count section) less serving.reads_from r.since in
     let added = adds_whole clock s new.held serving.from place log (take fed.count section) behind (fed.after (drop serving.from (take place log)) r.read behind.may) in
     let section_is = unread_is log place max s good r.streaming.at in
     let sound : SenderState = record new { failed = s.failed } in
@@ -104,7 +104,7 @@ keepalive_acts log clock name produced s new (Err fault) failed gap full told sa
 
 -- ---- a longer log
 
-pub grown_served : {L : Type 0} (log more : List Record) (produced : List ℕ) (s : Stage L) → IsServedBy log produced s → IsServedBy (log ++ more) produced s
+pub grown_served : {L : Type 0} (log more : List Record) (produced : List ℕ) (s : StartStage L) → IsServedBy log produced s → IsServedBy (log ++ more) produced s
 grown_served log more produced (stages.Open w) serving = grown log more w.reader.place produced w.sender serving
 grown_served log more produced (stages.Cut e) was = record {
   before = was.before;

@@ -21,7 +21,7 @@ use Rattle.walsender.proofs.Sections.{all_back, all_front, follows_parts, starts
 use Rattle.client.specs.Subscriber.{Subscriber}
 use Rattle.client.specs.Law.{AreForward, Gained, IsForward, gained_transactions, position_after}
 use Rattle.world.specs.Acting.{read_by}
-use Rattle.world.proofs.Orders.{InOrder, all_below, all_from, below, below-append, in_order, in_order_behind, in_order_within, late_all, late_part, none_below, parted}
+use Rattle.world.proofs.Orders.{InOrder, all_below, all_from, below, below-append, in_order, in_order_after, in_order_within, late_all, late_part, none_below, parted}
 
 -- ---- Items one by one.
 
@@ -102,8 +102,8 @@ end_later log more good =
     omega (arith, end_of-append FIRST_POSITION log more, rest.0)
 
 -- what is published of the records after a log, in order
-behind_log : (selection : PublicationSet) (from : ℕ) (log more : List Record) → IsWellFormedLog (log ++ more) → InOrder (end_of FIRST_POSITION log) (end_of FIRST_POSITION (log ++ more)) (published_from selection from log more)
-behind_log selection from log more good =
+after_log : (selection : PublicationSet) (from : ℕ) (log more : List Record) → IsWellFormedLog (log ++ more) → InOrder (end_of FIRST_POSITION log) (end_of FIRST_POSITION (log ++ more)) (published_from selection from log more)
+after_log selection from log more good =
     let parts = follows_parts FIRST_POSITION log more good.follows in
     let Ends : ℕ → Type 0 = λ n. InOrder (end_of FIRST_POSITION log) n (published_from selection from log more) in
     subst Ends (sym (end_of-append FIRST_POSITION log more)) (in_order selection from (end_of FIRST_POSITION log) log more parts.1 (all_back IsSized log more good.sizes))
@@ -179,10 +179,10 @@ settled_by selection log from start position base new bytes items good settled l
     ∙ append_assoc early (transactions_of (gains.done ++ gains.others)) behind in
     let order_front : InOrder FIRST_POSITION (end_of FIRST_POSITION front) (transactions_of (gains.done ++ gains.others)) =
     (let Order : List Published → Type 0 = λ ts. InOrder FIRST_POSITION (end_of FIRST_POSITION front) ts in subst Order (sym sent) (in_order selection start FIRST_POSITION [] front goes.0 (all_front IsSized front rest whole.sizes))) in
-    let order_behind = behind_log selection from front rest whole in
-    let order = in_order_behind FIRST_POSITION (end_of FIRST_POSITION front) (end_of FIRST_POSITION (front ++ rest)) (transactions_of (gains.done ++ gains.others)) behind order_front order_behind in
+    let order_after = after_log selection from front rest whole in
+    let order = in_order_after FIRST_POSITION (end_of FIRST_POSITION front) (end_of FIRST_POSITION (front ++ rest)) (transactions_of (gains.done ++ gains.others)) behind order_front order_after in
     let lates : AllByRecursion (λ (t : Published). position ≤ t.start) behind =
-    (let Late : ℕ → Type 0 = λ n. AllByRecursion (λ (t : Published). n ≤ t.start) behind in subst Late (sym read.at) (all_from (end_of FIRST_POSITION front) (end_of FIRST_POSITION (front ++ rest)) behind order_behind)) in
+    (let Late : ℕ → Type 0 = λ n. AllByRecursion (λ (t : Published). n ≤ t.start) behind in subst Late (sym read.at) (all_from (end_of FIRST_POSITION front) (end_of FIRST_POSITION (front ++ rest)) behind order_after)) in
     let safe : AreSafeKeepalives position (gains.done ++ gains.others) = subst (AreSafeKeepalives position) gains.is read.safe in
     let grows = followed position FIRST_POSITION (end_of FIRST_POSITION (front ++ rest)) base.position early gains.done gains.others behind
     (early_below from start base.position (published_transactions selection front from) asked (published_after selection from front)) order lates safe in

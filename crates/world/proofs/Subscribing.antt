@@ -5,7 +5,7 @@ use Rattle.std.specs.List.{AllByRecursion}
 use Rattle.std.specs.Str.{bytes_eq}
 use Rattle.std.proofs.lemmas.List.{map-set}
 use Rattle.std.proofs.lemmas.Option.{slice_get_read, slice_get_within}
-use Rattle.schedule.specs.declared.printed.answer.Answer.{Answer}
+use Rattle.world.specs.declared.printed.answer.Answer.{Answer}
 use Rattle.world.specs.declared.machine.Machine.{Machine}
 use Rattle.world.specs.declared.stepping.start.Start.{Start}
 use Rattle.world.specs.declared.subscriber.Subscriber.{Subscriber}
@@ -72,9 +72,9 @@ no_subscriber name subscribers is = none_by (subscriber_place 0 name subscribers
 bytes_eq_self : (xs : List ℕ) → bytes_eq xs xs ≡ true
 bytes_eq_self xs = subst (λ (l : List ℕ). bytes_eq l l ≡ true) (append-nil xs) (bytes_eq-after xs [] [])
 
-has_one_behind : (name other : List ℕ) (ss : List SubscriberState) (s : SubscriberState) → is_some (subscriber_of name ss) ≡ true → is_some (subscriber_of name (ss ++ s ∷ [])) ≡ true
-has_one_behind name other [] s is = let never : false ≡ true = is in cc
-has_one_behind name other (t ∷ ss) s is = by_test (bytes_eq t.connection name) is (has_one_behind name other ss s)
+has_one_after : (name other : List ℕ) (ss : List SubscriberState) (s : SubscriberState) → is_some (subscriber_of name ss) ≡ true → is_some (subscriber_of name (ss ++ s ∷ [])) ≡ true
+has_one_after name other [] s is = let never : false ≡ true = is in cc
+has_one_after name other (t ∷ ss) s is = by_test (bytes_eq t.connection name) is (has_one_after name other ss s)
   where
     by_test : (b : Bool) → is_some (cond b (Some t) (subscriber_of name ss)) ≡ true → (is_some (subscriber_of name ss) ≡ true → is_some (subscriber_of name (ss ++ s ∷ [])) ≡ true)
         → is_some (cond b (Some t) (subscriber_of name (ss ++ s ∷ []))) ≡ true
@@ -116,7 +116,7 @@ all_subscribed_with other ss after (s ∷ starts) same all = (has_one_with s.con
 
 all_subscribed_behind : (ss : List SubscriberState) (s : SubscriberState) (starts : List StartState) → AllByRecursion (IsSubscribed ss) starts → AllByRecursion (IsSubscribed (ss ++ s ∷ [])) starts
 all_subscribed_behind ss s [] all = tt
-all_subscribed_behind ss s (t ∷ starts) all = (has_one_behind t.connection t.connection ss s all.0, all_subscribed_behind ss s starts all.1)
+all_subscribed_behind ss s (t ∷ starts) all = (has_one_after t.connection t.connection ss s all.0, all_subscribed_behind ss s starts all.1)
 
 -- the connection is cut, and its subscriber reconnects
 pub all_reconnected : (name : List ℕ) (ss : List SubscriberState) (starts : List StartState) → AllByRecursion (IsSubscribed ss) starts → AllByRecursion (IsSubscribed (subscribers_after_reconnect name ss)) starts

@@ -9,8 +9,8 @@ use Rattle.walsender.specs.declared.fault.SendFault.{SendFault}
 use Rattle.walsender.specs.declared.fault.SendFault.TheVariants as sends
 use Rattle.walsender.specs.Published.{published_from, published_transactions}
 use Rattle.walsender.specs.Sending.{published_bytes}
-use Rattle.schedule.specs.declared.printed.answer.Answer.{Answer}
-use Rattle.schedule.specs.declared.printed.answer.Answer.TheVariants as answers
+use Rattle.world.specs.declared.printed.answer.Answer.{Answer}
+use Rattle.world.specs.declared.printed.answer.Answer.TheVariants as answers
 use Rattle.world.specs.declared.stepping.action.Action.{Action}
 use Rattle.world.specs.declared.stepping.action.Action.TheVariants as actions
 use Rattle.world.specs.Start.{StartState}

@@ -3,9 +3,9 @@ use Rattle.std.specs.Prelude.{◌≡◌, ◌<◌, ◌≤◌, ◌==◌, ℕ, List
 use Rattle.publication_config.specs.declared.fault.PubFault.TheVariants as pubs
 use Rattle.publication.specs.Publications.{PublicationSet}
 use Rattle.publication.specs.Choosing.{conflicts, selected_publications, is_unknown}
-use Rattle.schedule.specs.declared.printed.answer.Answer.{Answer}
+use Rattle.world.specs.declared.printed.answer.Answer.{Answer}
 use Rattle.schedule.specs.declared.lines.start_options.StartOptions.{StartOptions}
-use Rattle.schedule.specs.declared.printed.answer.Answer.TheVariants as answers
+use Rattle.world.specs.declared.printed.answer.Answer.TheVariants as answers
 use Rattle.world.specs.declared.stepping.action.Action.{Action}
 use Rattle.world.specs.declared.stepping.action.Action.TheVariants as actions
 use Rattle.slots.specs.State.{SlotsState}

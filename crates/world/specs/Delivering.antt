@@ -1,8 +1,8 @@
 -- What a delivery does: bytes go from the pipe of a connection to its subscriber.
 use Rattle.std.specs.Prelude.{◌≡◌, ℕ, ◌+◌, ◌||◌, nat_lt, List, length, take, Some, Ok, Err}
 use Rattle.client.specs.Taking.{ApplierState, Takes}
-use Rattle.schedule.specs.declared.printed.answer.Answer.{Answer}
-use Rattle.schedule.specs.declared.printed.answer.Answer.TheVariants as answers
+use Rattle.world.specs.declared.printed.answer.Answer.{Answer}
+use Rattle.world.specs.declared.printed.answer.Answer.TheVariants as answers
 use Rattle.world.specs.Start.{StartState}
 use Rattle.world.specs.State.{SubscriberState, WorldState, in_pipe, open_start, subscriber_of, with_subscriber}
 

@@ -6,8 +6,8 @@ use Rattle.slots.specs.Keeping.{confirmed_slot}
 use Rattle.slots.specs.declared.by_name.slot.Slot.{Slot}
 use Rattle.txlog.specs.Publishing.{after_give_back, log_end}
 use Rattle.txlog.specs.Giving.{kept_place}
-use Rattle.schedule.specs.declared.printed.answer.Answer.{Answer}
-use Rattle.schedule.specs.declared.printed.answer.Answer.TheVariants.{Done}
+use Rattle.world.specs.declared.printed.answer.Answer.{Answer}
+use Rattle.world.specs.declared.printed.answer.Answer.TheVariants.{Done}
 use Rattle.world.specs.Start.{StartState}
 use Rattle.world.specs.State.{WorldState}
 

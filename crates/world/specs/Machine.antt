@@ -6,7 +6,7 @@ use Rattle.indexmap.specs.IndexSet.{IndexSet, spare}
 use Rattle.std.specs.List.{AllByRecursion}
 use Rattle.wal.specs.declared.record.Record.{Record}
 use Rattle.wal.specs.Log.{IsWellFormedLog}
-use Rattle.schedule.specs.declared.printed.answer.Answer.{Answer}
+use Rattle.world.specs.declared.printed.answer.Answer.{Answer}
 use Rattle.world.specs.declared.stepping.action.Action.{Action}
 use Rattle.world.specs.declared.stepping.start.Start.{Start}
 use Rattle.world.specs.declared.subscriber.Subscriber.{Subscriber}

@@ -4,8 +4,8 @@ use Rattle.slots.specs.State.{IsRefusalOrMemory, create_refusal, slots_after_cre
 use Rattle.slots.specs.Words.{slots_after_confirming}
 use Rattle.txlog.specs.Publishing.{log_end}
 use Rattle.copyboth.specs.declared.status.Status.{Status}
-use Rattle.schedule.specs.declared.printed.answer.Answer.{Answer}
-use Rattle.schedule.specs.declared.printed.answer.Answer.TheVariants as answers
+use Rattle.world.specs.declared.printed.answer.Answer.{Answer}
+use Rattle.world.specs.declared.printed.answer.Answer.TheVariants as answers
 use Rattle.world.specs.Start.{StartState}
 use Rattle.world.specs.State.{SubscriberState, WorldState, open_start, subscriber_of, with_subscriber}
 

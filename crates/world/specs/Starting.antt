@@ -10,8 +10,8 @@ use Rattle.world.specs.declared.stepping.starting.StartFacts.{StartFacts}
 use Rattle.world.specs.State.{WorldState, with_one_for}
 use Rattle.slots.specs.Words.{is_held, is_missing, slot_named, slots_after_taking, start_from}
 use Rattle.wal.specs.Restart.{restart}
-use Rattle.schedule.specs.declared.printed.answer.Answer.{Answer}
-use Rattle.schedule.specs.declared.printed.answer.Answer.TheVariants as answers
+use Rattle.world.specs.declared.printed.answer.Answer.{Answer}
+use Rattle.world.specs.declared.printed.answer.Answer.TheVariants as answers
 use Rattle.world.specs.Acting.{new_start}
 use Rattle.world.specs.ConnectionLines.{IsKept}
 

@@ -7,8 +7,8 @@ use Rattle.shared_log.specs.Readers.{seen_of}
 use Rattle.walsender.specs.Sending.{SenderState}
 use Rattle.walsender.specs.Serving.{IsStreaming, Serves}
 use Rattle.world.specs.declared.stepping.start.Start.{Start}
-use Rattle.world.specs.declared.stepping.start.Stage.{Stage}
-use Rattle.world.specs.declared.stepping.start.Stage.TheVariants as stages
+use Rattle.world.specs.declared.stepping.start.StartStage.{StartStage}
+use Rattle.world.specs.declared.stepping.start.StartStage.TheVariants as stages
 use Rattle.world.specs.Start.{StartState}
 
 -- what a start shows while its sender is there, and once it was cut
@@ -16,7 +16,7 @@ abbrev pub open_state : List ℕ → List ℕ → SenderState → StartState
 open_state connection produced s =
     record { connection = connection; is_open = true; selection = s.selection; start = s.start; position = s.position; failed = s.failed; produced = produced; held = s.held }
 
-abbrev pub state_with : {L : Type 0} → List ℕ → List ℕ → Stage L → StartState
+abbrev pub state_with : {L : Type 0} → List ℕ → List ℕ → StartStage L → StartState
 state_with connection produced (stages.Open w) = open_state connection produced w.sender
 state_with connection produced (stages.Cut e) =
     record { connection = connection; is_open = false; selection = e.selection; start = e.start; position = e.position; failed = false; produced = produced; held = [] }
@@ -24,12 +24,12 @@ state_with connection produced (stages.Cut e) =
 abbrev pub start_state : {L : Type 0} → Start L → StartState
 start_state s = state_with s.connection s.produced.items s.stage
 
-abbrev pub is_open : {L : Type 0} → Stage L → Bool
+abbrev pub is_open : {L : Type 0} → StartStage L → Bool
 is_open (stages.Open w) = true
 is_open (stages.Cut e) = false
 
 -- the log as its reader saw it last
-abbrev pub seen_at : {L : Type 0} → Stage L → List Record
+abbrev pub seen_at : {L : Type 0} → StartStage L → List Record
 seen_at (stages.Open w) = seen_of w.reader
 seen_at (stages.Cut e) = []
 
@@ -42,7 +42,7 @@ pub record WasStreaming (log : List Record) (produced : List ℕ) (selection : P
   pub start_is : start ≡ before.start
   pub position_is : position ≡ before.position
 
-abbrev pub IsServedBy : {L : Type 0} → List Record → List ℕ → Stage L → Type 0
+abbrev pub IsServedBy : {L : Type 0} → List Record → List ℕ → StartStage L → Type 0
 IsServedBy log produced (stages.Open w) = Serves log produced w
 IsServedBy log produced (stages.Cut e) = WasStreaming log produced e.selection e.start e.position
 

@@ -9,7 +9,7 @@ use Rattle.slots.specs.State.{SlotsState, no_slots}
 use Rattle.copyboth.specs.declared.status.Status.{Status}
 use Rattle.client.specs.Subscriber.{subscriber_at_rest}
 use Rattle.client.specs.Taking.{ApplierState}
-use Rattle.schedule.specs.declared.printed.answer.Answer.{Answer}
+use Rattle.world.specs.declared.printed.answer.Answer.{Answer}
 use Rattle.configuration.specs.Setting.{Setting}
 use Rattle.world.specs.Start.{StartState, is_open_for}
 

@@ -4,8 +4,10 @@ use Rattle.schedule.specs.declared.event.Event.{Event}
 use Rattle.schedule.specs.declared.event.Event.TheVariants as events
 use Rattle.schedule.specs.declared.event.ConnectionStep.{ConnectionStep}
 use Rattle.schedule.specs.declared.event.ConnectionStep.TheVariants as steps
-use Rattle.schedule.specs.declared.printed.answer.Answer.{Answer}
-use Rattle.schedule.specs.declared.printed.answer.Answer.TheVariants as answers
+use Rattle.world.specs.declared.printed.answer.Answer.{Answer}
+use Rattle.world.specs.declared.printed.answer.Answer.TheVariants as answers
+use Rattle.world.specs.Codes.{answer_of}
+use Rattle.schedule.specs.declared.session_answer.SessionAnswer.{SessionAnswer}
 use Rattle.schedule.specs.declared.fault.WorldFault.{WorldFault}
 use Rattle.schedule.specs.declared.fault.WorldFault.TheVariants as worlds
 use Rattle.world.specs.declared.stepping.action.Action.TheVariants as actions
@@ -21,9 +23,13 @@ use Rattle.world.specs.Forgetting.{Forgets}
 abbrev pub session_state : WorldState → SessionState
 session_state w = record { publisher = w.publisher; transactions = w.transactions }
 
--- a session's line makes its call, and changes nothing else
+-- a session's line makes its call, and the run answers what the line does
+abbrev pub IsLineOf : Option Ask → WorldState → Answer → WorldState → Type 0
+IsLineOf ask old answer new = (line : SessionAnswer) × (answer ≡ answer_of line) × IsCalled ask (session_state old) line (session_state new)
+
+-- so it does, and changes nothing else
 pub record Calls (ask : Option Ask) (old : WorldState) (answer : Answer) (new : WorldState) : Type 0 where
-  pub called : IsCalled ask (session_state old) answer (session_state new)
+  pub called : IsLineOf ask old answer new
   pub is : new ≡ record old { publisher = new.publisher; transactions = new.transactions }
 
 -- A connection's line answers this and leaves that.

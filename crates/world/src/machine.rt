@@ -8,13 +8,14 @@ ghost use Rattle.world.specs.Start.{running_count};
 ghost use Rattle.world.specs.ConnectionLines.{ActsAt};
 ghost use Rattle.world.specs.Acting.{is_read as reads_log, takes_memory as takes_memory_of};
 ghost use Rattle.world.specs.Delivering.{Delivers};
-ghost use Rattle.schedule.specs.SessionLines.{IsLine, ask_of, line_takes_memory};
-ghost use Rattle.world.specs.Steps.{IsStep, IsStepAt, is_bad, is_bad_at, is_read, is_read_at, session_state, takes_memory, takes_memory_at};
+ghost use Rattle.schedule.specs.SessionLines.{ask_of, line_takes_memory};
+ghost use Rattle.world.specs.Steps.{IsLineOf, IsStep, IsStepAt, is_bad, is_bad_at, is_read, is_read_at, takes_memory, takes_memory_at};
 ghost use Rattle.world.specs.Machine.{ActsIn, IsMachine, IsOpenAt, IsOpenStartAt, subscriber_place, world_of};
 ghost use Rattle.world.specs.Starts.{IsServed, start_state};
 
 use crate::limits::MAX_SENDERS;
 use crate::opening::{close, place_among};
+use crate::printed::answer::Answer;
 use crate::stepping::action::Action;
 use crate::stepping::start::Start;
 use crate::subscriber::{Subscriber, place_of, reconnect};
@@ -24,12 +25,12 @@ use indexmap::IndexSet;
 use pqformat::Text;
 use publication::Publications;
 use replcmd::is_slot_name;
-use schedule::{Answer, ConnectionStep, Event, Sessions, WorldFault};
+use schedule::{ConnectionStep, Event, Sessions, WorldFault};
 use shared_log::{LogName, LogReader};
 use slots::{HeldSlots, OpenedSlots, SlotName, let_go};
 use std::alloc::Global;
 use std::sync::Wait;
-use txlog::{MAX_RECORDS, Opened, Publisher, SessionFault};
+use txlog::{MAX_RECORDS, Publisher, PublisherParts, SessionFault};
 
 /// A publisher, its slots, its sessions by name, every start of a sender, where the open ones stand, in order, the readers that serve none
 /// of them, and the subscribers.
@@ -54,7 +55,7 @@ impl<L: LogName + SlotName> Machine<L> {
     pub(crate) fn new<R: Wait>(
         rt: &R,
         alloc: Global,
-        history: shared_log::Opened,
+        history: shared_log::EmptyHistory,
         table: OpenedSlots,
         config: Config,
     ) -> Result<Self, WorldFault>
@@ -205,8 +206,9 @@ impl<L: LogName + SlotName> Machine<L> {
     fn call<R: Wait>(&mut self, rt: &R, event: &Event) -> Result<Answer, WorldFault>
         requires machine { IsMachine self.old }
         ensures done { IfOk result
-            (λ a. IsLine event.now (session_state (world_of self.old)) a
-            (session_state (world_of self.new))) }
+            (λ a. IsLineOf
+            (ask_of event.now (world_of self.old).publisher (world_of self.old).transactions)
+            (world_of self.old) a (world_of self.new)) }
         ensures rest { world_of self.new
             ≡ record (world_of self.old) {
               publisher = (world_of self.new).publisher;
@@ -222,7 +224,7 @@ impl<L: LogName + SlotName> Machine<L> {
         ensures machine { IsMachine self.new }
     {
         let (answer, _) = self.sessions.line(rt, &mut self.publisher, event)?;
-        Ok(answer)
+        Ok(Answer::of_session(answer))
     }
 
     /// Does what a line asks of the connection's sender. V1 where it has none.
@@ -309,7 +311,7 @@ impl<L: LogName + SlotName> Machine<L> {
 fn publisher_of<L: LogName, R: Wait>(
     rt: &R,
     alloc: Global,
-    history: shared_log::Opened,
+    history: shared_log::EmptyHistory,
     catalog: Catalog,
     records: usize,
 ) -> Result<(Publisher<L>, Vec<LogReader<L>>, LogReader<L>), SessionFault>
@@ -319,7 +321,7 @@ fn publisher_of<L: LogName, R: Wait>(
     ensures ok { IfOk result (λ made. made.0 ≡ new_publisher catalog records) }
     ensures readers { IfOk result (λ made. vec_len made.1 ≡ MAX_SENDERS) }
 {
-    let opened = Opened::over(alloc, history, catalog, records, MAX_SENDERS + 1)?;
+    let opened = PublisherParts::over(alloc, history, catalog, records, MAX_SENDERS + 1)?;
     let (publisher, mut readers) = Publisher::open(rt, opened)?;
     match readers.pop() {
         Some(counter) => Ok((publisher, readers, counter)),

@@ -2,7 +2,7 @@
 
 ghost use Rattle.std.specs.Prelude.{◌≡◌, ◌-◌, ◌≢◌, Err, List, ℕ, IfErr, IfOk, IfSome, OnErr, OnOk, length};
 ghost use mathlib.Core.List.{IsPrefix};
-ghost use Rattle.shared_log.specs.Fronts.{settled_records};
+ghost use Rattle.shared_log.specs.SeenPrefixes.{settled_records};
 ghost use Rattle.shared_log.specs.Readers.{HasSeen, seen_of};
 ghost use Rattle.txlog.specs.Giving.{kept_place};
 ghost use Rattle.txlog.specs.Invariants.{IsPublisher};

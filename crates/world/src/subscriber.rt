@@ -11,12 +11,12 @@ ghost use Rattle.world.specs.Delivering.{Gets};
 ghost use Rattle.world.specs.Machine.{AreNames, subscriber_place, subscriber_state};
 
 use crate::pipe_back::PipeBack;
+use crate::printed::answer::Answer;
 use client::Applier;
 use copyboth::Status;
 use indexmap::IndexSet;
 use pgoutput::Published;
 use pqformat::Text;
-use schedule::Answer;
 use std::alloc::{AllocError, Global};
 use wal::part;
 

@@ -13,11 +13,12 @@ ghost use Rattle.world.specs.Machine.{IsMachine, subscriber_state, world_of};
 ghost use Rattle.wal.specs.Log.{IsWellFormedLog};
 
 use crate::machine::Machine;
+use crate::printed::answer::Answer;
 use crate::stepping::start::Start;
 use crate::subscriber::Subscriber;
 use configuration::Config;
-use schedule::{Answer, Event, WorldFault};
-use shared_log::{LogName, Opened};
+use schedule::{Event, WorldFault};
+use shared_log::{EmptyHistory, LogName};
 use slots::{OpenedSlots, Slot, SlotName};
 use std::alloc::Global;
 use std::marker::Model;
@@ -60,7 +61,7 @@ impl<L: LogName + SlotName> World<L> {
     pub fn new<R: Wait>(
         rt: &R,
         alloc: Global,
-        history: Opened,
+        history: EmptyHistory,
         slots: OpenedSlots,
         config: Config,
     ) -> Result<Self, WorldFault>
@@ -103,7 +104,7 @@ impl<L: LogName + SlotName> World<L> {
     pub fn run<R: Wait>(
         rt: &R,
         alloc: Global,
-        history: Opened,
+        history: EmptyHistory,
         slots: OpenedSlots,
         config: Config,
         events: &[Event],

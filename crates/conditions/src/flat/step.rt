@@ -19,7 +19,7 @@ use tables::{RowRef, ValueRef};
 /// true; 1 is nothing, and it is; 2 is the step at place 0, and so on.
 #[derive(Drop)]
 pub struct Step {
-    pub(crate) asked: Asked,
+    pub(crate) asked: StepCondition,
     pub(crate) next_if_true: usize,
     pub(crate) next_if_not: usize,
 }
@@ -39,7 +39,7 @@ impl Step {
 
 /// A comparison of the column at a place with a literal, each sign and kind that is asked often by itself; or another condition.
 #[derive(Drop)]
-pub(crate) enum Asked {
+pub(crate) enum StepCondition {
     Equal(u32, i64),
     NotEqual(u32, i64),
     Less(u32, i64),
@@ -52,8 +52,8 @@ pub(crate) enum Asked {
     Other(Box<Expression>),
 }
 
-impl Asked {
-    pub(crate) fn of(alloc: Global, condition: &Expression) -> Result<Asked, AllocError>
+impl StepCondition {
+    pub(crate) fn of(alloc: Global, condition: &Expression) -> Result<StepCondition, AllocError>
         ensures { IfOk result (λ a. condition_asked a ≡ shape condition.now) }
     {
         if let Expression::Compare(how, a, b) = condition {
@@ -61,40 +61,40 @@ impl Asked {
                 match literal {
                     Literal::Number(number) => {
                         if let Ok(place) = u32::try_from(*place) {
-                            return Ok(Asked::of_number(*how, place, *number));
+                            return Ok(StepCondition::of_number(*how, place, *number));
                         }
                     }
                     Literal::Text(text) => {
                         let copy = Vec::from_slice(alloc, text.as_slice())?;
-                        return Ok(Asked::of_text(*how, *place, Items::new(copy)));
+                        return Ok(StepCondition::of_text(*how, *place, Items::new(copy)));
                     }
                     Literal::Null | Literal::Bool(_) => {}
                 }
             }
         }
-        Ok(Asked::Other(condition.boxed_copy(alloc)?))
+        Ok(StepCondition::Other(condition.boxed_copy(alloc)?))
     }
 
-    fn of_number(how: Comparison, place: u32, number: i64) -> Asked
+    fn of_number(how: Comparison, place: u32, number: i64) -> StepCondition
         ensures { condition_asked result ≡ number_asked how place number }
     {
         match how {
-            Comparison::Equal => Asked::Equal(place, number),
-            Comparison::NotEqual => Asked::NotEqual(place, number),
-            Comparison::Less => Asked::Less(place, number),
-            Comparison::Greater => Asked::Greater(place, number),
-            Comparison::LessOrEqual => Asked::LessOrEqual(place, number),
-            Comparison::GreaterOrEqual => Asked::GreaterOrEqual(place, number),
+            Comparison::Equal => StepCondition::Equal(place, number),
+            Comparison::NotEqual => StepCondition::NotEqual(place, number),
+            Comparison::Less => StepCondition::Less(place, number),
+            Comparison::Greater => StepCondition::Greater(place, number),
+            Comparison::LessOrEqual => StepCondition::LessOrEqual(place, number),
+            Comparison::GreaterOrEqual => StepCondition::GreaterOrEqual(place, number),
         }
     }
 
-    fn of_text(how: Comparison, place: usize, text: Items<u8>) -> Asked
+    fn of_text(how: Comparison, place: usize, text: Items<u8>) -> StepCondition
         ensures { condition_asked result ≡ text_asked how place text }
     {
         match how {
-            Comparison::Equal => Asked::SameText(place, text),
-            Comparison::NotEqual => Asked::OtherText(place, text),
-            _ => Asked::Text(how, place, text),
+            Comparison::Equal => StepCondition::SameText(place, text),
+            Comparison::NotEqual => StepCondition::OtherText(place, text),
+            _ => StepCondition::Text(how, place, text),
         }
     }
 
@@ -104,22 +104,38 @@ impl Asked {
         ensures read { IsNumberOf row.now last.new }
     {
         match self {
-            Asked::Equal(at, n) => is_number(row, last, *at, Comparison::Equal, n),
-            Asked::NotEqual(at, n) => is_number(row, last, *at, Comparison::NotEqual, n),
-            Asked::Less(at, n) => is_number(row, last, *at, Comparison::Less, n),
-            Asked::Greater(at, n) => is_number(row, last, *at, Comparison::Greater, n),
-            Asked::LessOrEqual(at, n) => is_number(row, last, *at, Comparison::LessOrEqual, n),
-            Asked::GreaterOrEqual(at, n) => is_number(
+            StepCondition::Equal(at, n) => is_number(row, last, *at, Comparison::Equal, n),
+            StepCondition::NotEqual(at, n) => is_number(row, last, *at, Comparison::NotEqual, n),
+            StepCondition::Less(at, n) => is_number(row, last, *at, Comparison::Less, n),
+            StepCondition::Greater(at, n) => is_number(row, last, *at, Comparison::Greater, n),
+            StepCondition::LessOrEqual(at, n) => is_number(
+                row,
+                last,
+                *at,
+                Comparison::LessOrEqual,
+                n,
+            ),
+            StepCondition::GreaterOrEqual(at, n) => is_number(
                 row,
                 last,
                 *at,
                 Comparison::GreaterOrEqual,
                 n,
             ),
-            Asked::SameText(at, text) => is_text(row, *at, Comparison::Equal, text.as_slice()),
-            Asked::OtherText(at, text) => is_text(row, *at, Comparison::NotEqual, text.as_slice()),
-            Asked::Text(how, at, text) => is_text(row, *at, *how, text.as_slice()),
-            Asked::Other(condition) => condition.truth(row).is_true(),
+            StepCondition::SameText(at, text) => is_text(
+                row,
+                *at,
+                Comparison::Equal,
+                text.as_slice(),
+            ),
+            StepCondition::OtherText(at, text) => is_text(
+                row,
+                *at,
+                Comparison::NotEqual,
+                text.as_slice(),
+            ),
+            StepCondition::Text(how, at, text) => is_text(row, *at, *how, text.as_slice()),
+            StepCondition::Other(condition) => condition.truth(row).is_true(),
         }
     }
 }

@@ -7,7 +7,7 @@ ghost use Rattle.conditions.specs.Steps.{AreStepsOf, LeadDown, turns, turns_of};
 ghost use Rattle.conditions.specs.Truth.{is_true, truth as truth_in};
 
 use crate::expression::Expression;
-use crate::flat::step::{Asked, NumberRead, Step};
+use crate::flat::step::{NumberRead, Step, StepCondition};
 use std::alloc::{AllocError, Global};
 use tables::RowRef;
 
@@ -48,7 +48,7 @@ impl Expression {
             | Expression::Compare(_, _, _)
             | Expression::Is(_, _, _)
             | Expression::Not(_) => {
-                let asked = Asked::of(alloc, self)?;
+                let asked = StepCondition::of(alloc, self)?;
                 steps.push(Step {
                     asked,
                     next_if_true,

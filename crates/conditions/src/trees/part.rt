@@ -11,7 +11,7 @@ use crate::fault::FilterFault;
 use crate::literal::Literal;
 use crate::trees::joint::Joint;
 use crate::trees::tightness::{IS, NOT, OPERAND};
-use crate::values::question::Question;
+use crate::values::is_test::IsTest;
 use std::alloc::{AllocError, Global};
 
 /// The most levels of a filter. Each operand, comparison, IS, NOT, AND, OR and pair of parentheses is one.
@@ -88,7 +88,7 @@ impl Part {
     pub(crate) fn asked(
         self,
         alloc: Global,
-        question: Question,
+        question: IsTest,
         is_negated: bool,
     ) -> Result<Part, AllocError>
         ensures { IfOk result
@@ -180,7 +180,7 @@ fn denied_tree(
 
 fn asked_tree(
     alloc: Global,
-    question: Question,
+    question: IsTest,
     is_negated: bool,
     tree: Result<Tree, FilterFault>,
 ) -> Result<Result<Tree, FilterFault>, AllocError>

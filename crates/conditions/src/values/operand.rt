@@ -7,7 +7,7 @@ ghost use Rattle.conditions.specs.Shapes.{datum_of_operand, literal_datum};
 use crate::literal::Literal;
 use crate::truth::Truth;
 use crate::values::comparison::Comparison;
-use crate::values::question::Question;
+use crate::values::is_test::IsTest;
 use std::cmp::Ordering;
 use tables::uuid_of_text;
 
@@ -79,13 +79,13 @@ impl<'a> Operand<'a> {
     }
 
     /// The answer to what IS asks of it, which is never unknown.
-    pub(crate) fn is(self, question: Question) -> bool
+    pub(crate) fn is(self, question: IsTest) -> bool
         ensures { result ≡ answer_to_question question (datum_of_operand self.entry) }
     {
         match (question, self) {
-            (Question::Null | Question::Unknown, Operand::Null) => true,
-            (Question::True, Operand::Bool(holds)) => holds,
-            (Question::False, Operand::Bool(holds)) => !holds,
+            (IsTest::Null | IsTest::Unknown, Operand::Null) => true,
+            (IsTest::True, Operand::Bool(holds)) => holds,
+            (IsTest::False, Operand::Bool(holds)) => !holds,
             _ => false,
         }
     }

@@ -6,7 +6,7 @@ ghost use Rattle.conditions.specs.Shapes.{literal_datum};
 ghost use Rattle.tables.specs.Kinds.{uuid_of_text};
 
 use crate::literal::Literal;
-use crate::values::question::Question;
+use crate::values::is_test::IsTest;
 use tables::uuid_of_text;
 
 /// The kind of an operand. Integers of all widths are one; null is of any. A text in the condition that spells a UUID is of two:
@@ -68,11 +68,11 @@ impl Sort {
         }
     }
 
-    pub(crate) fn is_asked(self, question: Question) -> bool
+    pub(crate) fn is_asked(self, question: IsTest) -> bool
         ensures { result ≡ is_asked question self }
     {
         match question {
-            Question::Null => true,
+            IsTest::Null => true,
             _ => self.is_truth(),
         }
     }
@@ -102,7 +102,7 @@ pub(crate) fn sort_joined(left: Option<Sort>, right: Option<Sort>) -> Option<Sor
 }
 
 /// The kind of the question about this.
-pub(crate) fn sort_asked(question: Question, inner: Option<Sort>) -> Option<Sort>
+pub(crate) fn sort_asked(question: IsTest, inner: Option<Sort>) -> Option<Sort>
     ensures { result ≡ of_one (is_asked question) inner }
 {
     truths_if(inner?.is_asked(question))

@@ -10,7 +10,7 @@ ghost use Rattle.conditions.specs.declared.words.token.TheConstants.{NAME_QUOTE,
 ghost use Rattle.conditions.specs.declared.words.class.Class.TheVariants as classes;
 ghost use Rattle.conditions.specs.Tokens.{Spells, is_first, is_mark, is_pair};
 ghost use Rattle.pqformat.specs.Quoting.{begins, quoted_at};
-ghost use Rattle.conditions.specs.Lexing.{GivesTokens, is_stray, Lexes, after_run, closed_token, lent, lent_token, mark_at, one_mark, run_of, signed_at, token_at, token_behind};
+ghost use Rattle.conditions.specs.Lexing.{GivesTokens, is_stray, Lexes, after_run, closed_token, lent, lent_token, mark_at, one_mark, run_of, signed_at, token_at, token_after};
 
 use crate::fault::FilterFault;
 use crate::words::class::Class;
@@ -154,14 +154,14 @@ fn mark(b: u8, tail: &[u8]) -> (Token, &[u8])
 }
 
 /// The token that begins with this byte, the first of the text.
-fn token_behind<'a>(
+fn token_after<'a>(
     alloc: Global,
     b: u8,
     text: &'a [u8],
     tail: &'a [u8],
 ) -> Result<(Token, &'a [u8]), AllocError>
     requires { text.now ≡ b ∷ tail.now }
-    ensures { IfOk result (λ x. lent_token x ≡ token_behind b tail.now) }
+    ensures { IfOk result (λ x. lent_token x ≡ token_after b tail.now) }
 {
     if b == NAME_QUOTE {
         return quoted_name(alloc, tail);
@@ -204,7 +204,7 @@ fn first_token(alloc: Global, text: &[u8]) -> Result<Option<(Token, &[u8])>, All
     let Some((b, tail)) = front.split_first() else {
         return Ok(None);
     };
-    Ok(Some(token_behind(alloc, *b, front, tail)?))
+    Ok(Some(token_after(alloc, *b, front, tail)?))
 }
 
 /// The tokens of a text, one after the other; the last one is stray where it has none.

@@ -1,6 +1,6 @@
 //! A connection on its way to its threads.
 
-use crate::fault::Unserved;
+use crate::fault::ConnectionRefusal;
 use std::mem;
 use std::net::TcpStream;
 use std::sync::{Condvar, Mutex, MutexGuard, Wait};
@@ -16,7 +16,7 @@ pub struct Arrival {
 struct Arriving {
     socket: Option<TcpStream>,
     /// Why it can't be served whose socket is here.
-    why: Unserved,
+    why: ConnectionRefusal,
     /// All of its threads run, or it has none and is still here.
     is_settled: bool,
 }
@@ -26,7 +26,7 @@ impl Arrival {
         Arrival {
             arriving: Mutex::new(Arriving {
                 socket: None,
-                why: Unserved::Thread,
+                why: ConnectionRefusal::Thread,
                 is_settled: false,
             }),
             settled: Condvar::new(),
@@ -37,7 +37,7 @@ impl Arrival {
     pub fn put<R: Wait>(&self, rt: &R, socket: TcpStream) {
         let mut arriving = self.arriving.lock(rt);
         arriving.socket = Some(socket);
-        arriving.why = Unserved::Thread;
+        arriving.why = ConnectionRefusal::Thread;
         arriving.is_settled = false;
         drop(arriving);
     }
@@ -59,7 +59,7 @@ impl Arrival {
     }
 
     /// It was taken, and can't be served.
-    pub fn give_back<R: Wait>(&self, rt: &R, socket: TcpStream, why: Unserved) {
+    pub fn give_back<R: Wait>(&self, rt: &R, socket: TcpStream, why: ConnectionRefusal) {
         let mut arriving = self.arriving.lock(rt);
         arriving.socket = Some(socket);
         arriving.why = why;
@@ -69,7 +69,7 @@ impl Arrival {
     }
 
     /// Waits until all of its threads run, and answers the connection where it can't be served, and why. None: it was taken.
-    pub fn settled<R: Wait>(&self, rt: &R) -> Option<(TcpStream, Unserved)> {
+    pub fn settled<R: Wait>(&self, rt: &R) -> Option<(TcpStream, ConnectionRefusal)> {
         let arriving = self.arriving.lock(rt);
         let mut arriving = self
             .settled

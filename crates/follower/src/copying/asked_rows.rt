@@ -10,7 +10,7 @@ use std::io::{Read, Write};
 use std::sync::Wait;
 
 /// A value of a row: a text, or null.
-pub(crate) type Value = Option<String>;
+pub(crate) type TextValue = Option<String>;
 
 /// Asks, and answers the rows. Faults as of `start_stream`, and `Client` where a value is no text (K1) or the answer is another one
 /// (K2).
@@ -20,7 +20,7 @@ pub(crate) fn ask_rows<R: Wait, S: Read + Write>(
     incoming: &mut Incoming,
     socket: &mut S,
     text: String,
-) -> Result<Vec<Vec<Value>>, FollowFault> {
+) -> Result<Vec<Vec<TextValue>>, FollowFault> {
     send_query(alloc, socket, text)?;
     let mut rows = Vec::new(alloc);
     take_rows(rt, alloc, incoming, socket, &mut rows)?;
@@ -32,7 +32,7 @@ fn take_rows<R: Wait, S: Read>(
     alloc: Global,
     incoming: &mut Incoming,
     socket: &mut S,
-    rows: &mut Vec<Vec<Value>>,
+    rows: &mut Vec<Vec<TextValue>>,
 ) -> Result<(), FollowFault> {
     for _ in rt.forever() {
         let (frame, length) = incoming.next(rt, socket)?;
@@ -45,7 +45,11 @@ fn take_rows<R: Wait, S: Read>(
 }
 
 /// Takes a frame of the answer: a row is kept. Whether it is the last.
-fn take_row(alloc: Global, frame: Back, rows: &mut Vec<Vec<Value>>) -> Result<bool, FollowFault> {
+fn take_row(
+    alloc: Global,
+    frame: Back,
+    rows: &mut Vec<Vec<TextValue>>,
+) -> Result<bool, FollowFault> {
     match frame {
         Back::DataRow(row) => {
             rows.push(values_of(alloc, row)?)?;
@@ -59,7 +63,7 @@ fn take_row(alloc: Global, frame: Back, rows: &mut Vec<Vec<Value>>) -> Result<bo
     }
 }
 
-fn values_of(alloc: Global, row: DataRow) -> Result<Vec<Value>, FollowFault> {
+fn values_of(alloc: Global, row: DataRow) -> Result<Vec<TextValue>, FollowFault> {
     let mut values = Vec::new(alloc);
     for value in row.values.into_vec() {
         match value {
@@ -74,7 +78,7 @@ fn values_of(alloc: Global, row: DataRow) -> Result<Vec<Value>, FollowFault> {
 }
 
 /// The text of a row's value at a place. `Client` (K2) where there is none.
-pub(crate) fn text_at(row: &[Value], at: usize) -> Result<&str, FollowFault> {
+pub(crate) fn text_at(row: &[TextValue], at: usize) -> Result<&str, FollowFault> {
     match row.get(at) {
         Some(Some(text)) => Ok(text.as_str()),
         Some(None) | None => Err(FollowFault::Client(ClientFault::Order)),
@@ -82,7 +86,7 @@ pub(crate) fn text_at(row: &[Value], at: usize) -> Result<&str, FollowFault> {
 }
 
 /// The number of a row's value at a place. `Client` (K2) where there is none.
-pub(crate) fn number_at(row: &[Value], at: usize) -> Result<u32, FollowFault> {
+pub(crate) fn number_at(row: &[TextValue], at: usize) -> Result<u32, FollowFault> {
     match text_at(row, at)?.parse::<u32>() {
         Ok(number) => Ok(number),
         Err(_) => Err(FollowFault::Client(ClientFault::Order)),

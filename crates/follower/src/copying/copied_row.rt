@@ -16,10 +16,25 @@ const NULL: &[u8] = b"\\N";
 /// isn't UTF-8 (K1) or memory is refused (K5).
 pub(crate) fn cells_of(alloc: Global, line: &[u8]) -> Result<Vec<Cell>, FollowFault> {
     let mut cells = Vec::new(alloc);
-    for field in line.split(|byte| *byte == b'\t') {
-        cells.push(cell_of(alloc, field)?)?;
+    match add_cells(alloc, line, &mut cells) {
+        Ok(()) => Ok(cells),
+        Err(fault) => {
+            // Let go before the way out, which keeps the proof short.
+            drop(cells);
+            Err(fault)
+        }
     }
-    Ok(cells)
+}
+
+fn add_cells(alloc: Global, line: &[u8], cells: &mut Vec<Cell>) -> Result<(), FollowFault> {
+    for field in line.split(|byte| *byte == b'\t') {
+        add_cell(alloc, field, cells)?;
+    }
+    Ok(())
+}
+
+fn add_cell(alloc: Global, field: &[u8], cells: &mut Vec<Cell>) -> Result<(), FollowFault> {
+    Ok(cells.push(cell_of(alloc, field)?)?)
 }
 
 fn cell_of(alloc: Global, field: &[u8]) -> Result<Cell, FollowFault>

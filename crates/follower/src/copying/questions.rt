@@ -1,16 +1,18 @@
 //! What one who copies asks: the texts of PostgreSQL's own subscribers, of release 15.
 
+use crate::quoting::{push_literal, push_quoted};
 use pgoutput::Relation;
+use pqformat::Text;
 use std::alloc::{AllocError, Global};
 
 /// Which of these publications there are.
-pub(crate) fn publications(alloc: Global, names: &[String]) -> Result<String, AllocError> {
+pub(crate) fn publications(alloc: Global, names: &[Text]) -> Result<String, AllocError> {
     let front = "SELECT t.pubname FROM\n pg_catalog.pg_publication t WHERE\n t.pubname IN (";
     listed(front.to_string(alloc)?, names, ")")
 }
 
 /// Which tables they publish.
-pub(crate) fn tables(alloc: Global, names: &[String]) -> Result<String, AllocError> {
+pub(crate) fn tables(alloc: Global, names: &[Text]) -> Result<String, AllocError> {
     let front =
         "SELECT DISTINCT t.schemaname, t.tablename \n, t.attnames\nFROM pg_catalog.pg_publication_tables t\n WHERE t.pubname IN (";
     listed(front.to_string(alloc)?, names, ")")
@@ -29,11 +31,7 @@ pub(crate) fn table(alloc: Global, schema: &str, name: &str) -> Result<String, A
 }
 
 /// The numbers of its columns that these publications have, or null for all.
-pub(crate) fn column_lists(
-    alloc: Global,
-    oid: u32,
-    names: &[String],
-) -> Result<String, AllocError> {
+pub(crate) fn column_lists(alloc: Global, oid: u32, names: &[Text]) -> Result<String, AllocError> {
     let front = format!(in alloc;
         "SELECT DISTINCT  (CASE WHEN (array_length(gpt.attrs, 1) = c.relnatts)   THEN NULL ELSE gpt.attrs END)  FROM pg_publication p,  LATERAL pg_get_publication_tables(p.pubname) gpt,  pg_class c WHERE gpt.relid = {oid} AND c.oid = gpt.relid   AND p.pubname IN ( "
     )?;
@@ -48,7 +46,7 @@ pub(crate) fn attributes(alloc: Global, oid: u32) -> Result<String, AllocError> 
 }
 
 /// The row filters by which these publications have it, each once; null for all rows.
-pub(crate) fn row_filters(alloc: Global, oid: u32, names: &[String]) -> Result<String, AllocError> {
+pub(crate) fn row_filters(alloc: Global, oid: u32, names: &[Text]) -> Result<String, AllocError> {
     let front = format!(in alloc;
         "SELECT DISTINCT pg_get_expr(gpt.qual, gpt.relid)  FROM pg_publication p,  LATERAL pg_get_publication_tables(p.pubname) gpt WHERE gpt.relid = {oid}   AND p.pubname IN ( "
     )?;
@@ -78,7 +76,7 @@ pub(crate) fn copy(
     Ok(text)
 }
 
-fn listed(mut text: String, names: &[String], end: &str) -> Result<String, AllocError> {
+fn listed(mut text: String, names: &[Text], end: &str) -> Result<String, AllocError> {
     for (at, name) in names.iter().enumerate() {
         if at > 0 {
             text.push_str(", ")?;
@@ -113,31 +111,4 @@ fn push_columns(text: &mut String, table: &Relation) -> Result<(), AllocError> {
         push_quoted(text, column.name.as_str(), '"')?;
     }
     Ok(())
-}
-
-/// Adds a literal (PostgreSQL 15, 4.1.2): where it has backslashes, these are doubled, after an E.
-fn push_literal(text: &mut String, word: &str) -> Result<(), AllocError> {
-    if word.contains('\\') {
-        text.push('E')?;
-    }
-    text.push('\'')?;
-    for letter in word.chars() {
-        if letter == '\'' || letter == '\\' {
-            text.push(letter)?;
-        }
-        text.push(letter)?;
-    }
-    text.push('\'')
-}
-
-/// Adds the word between quotes, with each of its own doubled.
-pub(crate) fn push_quoted(text: &mut String, word: &str, quote: char) -> Result<(), AllocError> {
-    text.push(quote)?;
-    for letter in word.chars() {
-        if letter == quote {
-            text.push(quote)?;
-        }
-        text.push(letter)?;
-    }
-    text.push(quote)
 }

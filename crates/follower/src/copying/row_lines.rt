@@ -3,6 +3,7 @@
 use crate::copying::copied_row::cells_of;
 use crate::copying::made_frames::MadeFrames;
 use crate::fault::FollowFault;
+use pgoutput::Relation;
 use std::alloc::Global;
 
 /// What has come of a line of a table's copy. Bytes may be cut anywhere.
@@ -16,12 +17,11 @@ pub(crate) struct RowLines {
 }
 
 impl RowLines {
-    /// Of the table of this OID.
-    pub(crate) fn new(alloc: Global, oid: u32, has_columns: bool) -> Self {
+    pub(crate) fn new(alloc: Global, table: &Relation) -> Self {
         RowLines {
             alloc,
-            oid,
-            has_columns,
+            oid: table.oid,
+            has_columns: !table.columns.is_empty(),
             line: Vec::new(alloc),
         }
     }

@@ -1,16 +1,17 @@
 //! A copy from its first question to its last.
 
-use crate::copying::asked_rows::{Value, ask_rows, text_at};
+use crate::copying::asked_rows::{TextValue, ask_rows, text_at};
 use crate::copying::made_frames::MadeFrames;
-use crate::copying::names::names_in;
 use crate::copying::questions;
 use crate::copying::table_copy::copy_table;
 use crate::fault::FollowFault;
 use crate::login::asking::{End, creating, send_query, wait_for};
+use crate::quoting::push_quoted;
 use crate::receiving::incoming::Incoming;
 use bytes::BytesMut;
 use client::ClientFault;
-use replcmd::parse_position;
+use pqformat::{Items, Text};
+use replcmd::{CmdFault, names_of, parse_position};
 use std::alloc::{AllocError, Global};
 use std::io::{Read, Write};
 use std::sync::Wait;
@@ -28,12 +29,13 @@ const IS_NOT_THERE: &str = "42704";
 /// What is copied: which publications have which tables.
 #[derive(Drop)]
 pub(crate) struct CopySession {
-    publications: Vec<String>,
-    tables: Vec<Vec<Value>>,
+    publications: Items<Text>,
+    tables: Vec<Vec<TextValue>>,
 }
 
 impl CopySession {
-    /// Asks which tables are published. `NoPublication` (K10) names a publication that there isn't; else faults as of `ask_rows`.
+    /// Asks which tables are published. `NoPublication` (K10) names a publication that there isn't, or a list that has no names;
+    /// else faults as of `ask_rows`.
     pub(crate) fn begin<R: Wait, S: Read + Write>(
         rt: &R,
         alloc: Global,
@@ -42,15 +44,17 @@ impl CopySession {
         publications: &str,
     ) -> Result<Self, FollowFault> {
         let publications = names_in(alloc, publications)?;
-        let asked = questions::publications(alloc, publications.as_slice())?;
-        let there = ask_rows(rt, alloc, incoming, socket, asked)?;
-        judge(alloc, publications.as_slice(), there.as_slice())?;
-        let asked = questions::tables(alloc, publications.as_slice())?;
-        let tables = ask_rows(rt, alloc, incoming, socket, asked)?;
-        Ok(CopySession {
-            publications,
-            tables,
-        })
+        match tables_of(rt, alloc, incoming, socket, publications.as_slice()) {
+            Ok(tables) => Ok(CopySession {
+                publications,
+                tables,
+            }),
+            Err(fault) => {
+                // Let go before the way out, which keeps the proof short.
+                drop(publications);
+                Err(fault)
+            }
+        }
     }
 
     /// Makes the slot, and copies the rows that committed before its point: they are one transaction of a stream, whose frames are
@@ -83,8 +87,35 @@ impl CopySession {
     }
 }
 
+/// The names of a list. A text that is none names no publication.
+fn names_in(alloc: Global, list: &str) -> Result<Items<Text>, FollowFault> {
+    match names_of(alloc, list) {
+        Ok(names) => Ok(names),
+        Err(CmdFault::Memory) => Err(FollowFault::Client(ClientFault::Memory)),
+        Err(_) => Err(FollowFault::NoPublication(list.to_string(alloc)?)),
+    }
+}
+
+/// The tables of these publications, which have to be there.
+fn tables_of<R: Wait, S: Read + Write>(
+    rt: &R,
+    alloc: Global,
+    incoming: &mut Incoming,
+    socket: &mut S,
+    names: &[Text],
+) -> Result<Vec<Vec<TextValue>>, FollowFault> {
+    let asked = questions::publications(alloc, names)?;
+    let there = ask_rows(rt, alloc, incoming, socket, asked)?;
+    let judged = judge(alloc, names, there.as_slice());
+    // Let go before the way out, which keeps the proof short.
+    drop(there);
+    judged?;
+    let asked = questions::tables(alloc, names)?;
+    ask_rows(rt, alloc, incoming, socket, asked)
+}
+
 /// Refused where a publication isn't there.
-fn judge(alloc: Global, names: &[String], there: &[Vec<Value>]) -> Result<(), FollowFault> {
+fn judge(alloc: Global, names: &[Text], there: &[Vec<TextValue>]) -> Result<(), FollowFault> {
     for name in names {
         let is_there = there.iter().any(
             |row| matches!(text_at(row.as_slice(), 0), Ok(told) if told == name.as_str()),
@@ -118,7 +149,7 @@ pub(crate) fn drop_left<R: Wait, S: Read + Write>(
 
 fn dropping(alloc: Global, slot: &str) -> Result<String, AllocError> {
     let mut text = "DROP_REPLICATION_SLOT ".to_string(alloc)?;
-    questions::push_quoted(&mut text, slot, '"')?;
+    push_quoted(&mut text, slot, '"')?;
     text.push_str(" WAIT")?;
     Ok(text)
 }

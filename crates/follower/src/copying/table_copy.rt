@@ -1,6 +1,6 @@
 //! The copy of one table.
 
-use crate::copying::asked_rows::Value;
+use crate::copying::asked_rows::TextValue;
 use crate::copying::copied_table::CopiedTable;
 use crate::copying::made_frames::MadeFrames;
 use crate::copying::questions;
@@ -10,31 +10,60 @@ use crate::login::asking::send_query;
 use crate::receiving::incoming::Incoming;
 use client::ClientFault;
 use frames::Back;
+use pqformat::Text;
 use std::alloc::Global;
 use std::io::{Read, Write};
 use std::sync::Wait;
 
-/// Copies the table of this name: adds what is told of it, and its rows. Faults as of `CopiedTable::ask` and `cells_of`.
+/// Copies the table of this name: adds what is told of it, and its rows. Faults as of `CopiedTable::ask` and `RowLines::take`.
 pub(crate) fn copy_table<R: Wait, S: Read + Write>(
     rt: &R,
     alloc: Global,
     incoming: &mut Incoming,
     socket: &mut S,
-    name: &[Value],
-    publications: &[String],
+    name: &[TextValue],
+    publications: &[Text],
     made: &mut MadeFrames,
 ) -> Result<(), FollowFault> {
     let table = CopiedTable::ask(rt, alloc, incoming, socket, name, publications)?;
+    let mut lines = RowLines::new(alloc, &table.relation);
+    let begun = begin_copy(alloc, socket, table, made);
+    let taken = match begun {
+        Ok(()) => take_copy(rt, incoming, socket, &mut lines, made),
+        Err(fault) => Err(fault),
+    };
+    // Let go before the way out, which keeps the proof short.
+    drop(lines);
+    taken
+}
+
+/// Asks for the rows, and adds what is told of their table.
+fn begin_copy<S: Write>(
+    alloc: Global,
+    socket: &mut S,
+    table: CopiedTable,
+    made: &mut MadeFrames,
+) -> Result<(), FollowFault> {
+    let asked = ask_for_rows(alloc, socket, &table);
     let CopiedTable { relation, filters } = table;
-    send_query(
-        alloc,
-        socket,
-        questions::copy(alloc, &relation, filters.as_slice())?,
-    )?;
-    let mut lines = RowLines::new(alloc, relation.oid, !relation.columns.is_empty());
-    made.add_table(relation)?;
-    incoming.pass_copy_out(rt, socket)?;
-    take_copy(rt, incoming, socket, &mut lines, made)
+    drop(filters);
+    match asked {
+        Ok(()) => made.add_table(relation),
+        Err(fault) => {
+            // Let go before the way out, which keeps the proof short.
+            drop(relation);
+            Err(fault)
+        }
+    }
+}
+
+fn ask_for_rows<S: Write>(
+    alloc: Global,
+    socket: &mut S,
+    table: &CopiedTable,
+) -> Result<(), FollowFault> {
+    let asked = questions::copy(alloc, &table.relation, table.filters.as_slice())?;
+    send_query(alloc, socket, asked)
 }
 
 fn take_copy<R: Wait, S: Read>(
@@ -44,6 +73,7 @@ fn take_copy<R: Wait, S: Read>(
     lines: &mut RowLines,
     made: &mut MadeFrames,
 ) -> Result<(), FollowFault> {
+    incoming.pass_copy_out(rt, socket)?;
     for _ in rt.forever() {
         let (frame, length) = incoming.next(rt, socket)?;
         incoming.pass(length);

@@ -51,26 +51,33 @@ impl CopiedRows {
         has_left_slot: bool,
     ) -> Result<Self, FollowFault> {
         let mut incoming = Incoming::new(alloc);
-        greet(rt, alloc, &mut incoming, socket, options)?;
-        let system = ask_system(rt, alloc, &mut incoming, socket)?;
-        judge_asked(alloc, options, system.as_str())?;
-        let copy = CopySession::begin(rt, alloc, &mut incoming, socket, options.publications)?;
-        if has_left_slot {
-            drop_left(rt, alloc, &mut incoming, socket, options.slot)?;
-        }
-        let frames = copy.copy(rt, alloc, &mut incoming, socket, options.slot)?;
+        let asked = ask(rt, alloc, &mut incoming, socket, options, has_left_slot);
+        // Let go before the way out, which keeps the proof short.
+        drop(incoming);
+        let (system, frames) = asked?;
         let mut copied = CopiedRows {
             receiver: StreamReceiver::new(alloc, 0, 1),
             tables: ToldTables::new(alloc),
             system,
         };
-        copied.take_all(alloc, frames)?;
-        Ok(copied)
+        match copied.take_all(rt, alloc, frames) {
+            Ok(()) => Ok(copied),
+            Err(fault) => {
+                // Let go before the way out, which keeps the proof short.
+                drop(copied);
+                Err(fault)
+            }
+        }
     }
 
     /// Takes all of these frames.
-    fn take_all(&mut self, alloc: Global, mut frames: BytesMut) -> Result<(), FollowFault> {
-        for _ in 0..u64::MAX {
+    fn take_all<R: Wait>(
+        &mut self,
+        rt: &R,
+        alloc: Global,
+        mut frames: BytesMut,
+    ) -> Result<(), FollowFault> {
+        for _ in rt.forever() {
             let Some((frame, length)) = read_back(alloc, frames.as_slice())? else {
                 break;
             };
@@ -103,6 +110,55 @@ impl CopiedRows {
     pub fn system(&self) -> &str {
         self.system.as_str()
     }
+}
+
+/// Which system the server says it is, and the frames of the copy.
+fn ask<R: Wait + RandomSource, S: Peer>(
+    rt: &R,
+    alloc: Global,
+    incoming: &mut Incoming,
+    socket: &mut S,
+    options: &Options<'_>,
+    has_left_slot: bool,
+) -> Result<(String, BytesMut), FollowFault> {
+    greet(rt, alloc, incoming, socket, options)?;
+    let system = ask_system(rt, alloc, incoming, socket)?;
+    let judged = judge_asked(alloc, options, system.as_str());
+    let copied = match judged {
+        Ok(()) => copy(rt, alloc, incoming, socket, options, has_left_slot),
+        Err(fault) => Err(fault),
+    };
+    match copied {
+        Ok(frames) => Ok((system, frames)),
+        Err(fault) => {
+            // Let go before the way out, which keeps the proof short.
+            drop(system);
+            Err(fault)
+        }
+    }
+}
+
+fn copy<R: Wait, S: Peer>(
+    rt: &R,
+    alloc: Global,
+    incoming: &mut Incoming,
+    socket: &mut S,
+    options: &Options<'_>,
+    has_left_slot: bool,
+) -> Result<BytesMut, FollowFault> {
+    let session = CopySession::begin(rt, alloc, incoming, socket, options.publications)?;
+    let dropped = if has_left_slot {
+        drop_left(rt, alloc, incoming, socket, options.slot)
+    } else {
+        Ok(())
+    };
+    let copied = match dropped {
+        Ok(()) => session.copy(rt, alloc, incoming, socket, options.slot),
+        Err(fault) => Err(fault),
+    };
+    // Let go before the way out, which keeps the proof short.
+    drop(session);
+    copied
 }
 
 fn front_of(bytes: &[u8], count: usize) -> &[u8] {

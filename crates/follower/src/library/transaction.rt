@@ -67,7 +67,7 @@ impl<'a> Transaction<'a> {
         self.applied.changes.as_slice()
     }
 
-    /// A change of it, with its values by the names of columns. K3 where the table of its row wasn't told.
+    /// A change of it, with its values by the names of columns. `Client` where the table of its row wasn't told (K3).
     pub fn read(&self, change: &'a PublishedChange) -> Result<Change<'a>, FollowFault> {
         match &change.message {
             Logical::Insert(insert) => {

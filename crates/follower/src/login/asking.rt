@@ -3,12 +3,12 @@
 ghost use Rattle.frames.specs.Frame.{FitsLength};
 ghost use Rattle.frames.specs.Front.{front_body};
 
-use crate::copying::questions::push_quoted;
 use crate::fault::{FollowFault, told};
 use crate::login::authenticating::authenticate;
 use crate::login::login_fault::LoginFault;
 use crate::login::startup::{is_name, put_startup};
 use crate::options::Options;
+use crate::quoting::push_quoted;
 use crate::receiving::incoming::Incoming;
 use bytes::BytesMut;
 use client::ClientFault;

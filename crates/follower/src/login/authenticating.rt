@@ -158,7 +158,7 @@ fn say<S: Write>(alloc: Global, socket: &mut S, body: &[u8]) -> Result<(), Follo
         .map_err(FollowFault::Connection)
 }
 
-/// Whether the mechanism is one of those that are named, each with a zero byte behind it.
+/// Whether the mechanism is one of those that are named, each with a zero byte after it.
 fn is_offered(mechanisms: &[u8]) -> bool {
     let wanted = MECHANISM.as_bytes();
     mechanisms.split(|b| *b == 0).any(|name| name == wanted)

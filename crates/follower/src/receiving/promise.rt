@@ -9,7 +9,7 @@ ghost use Rattle.follower.specs.Once.{EachOnce, before};
 ghost use Rattle.follower.specs.declared.printing.line.Line.{Line};
 ghost use Rattle.follower.specs.ResumePoint.{with_lines};
 ghost use Rattle.follower.specs.Found.{BeginsOne, Finds, TellAll, bytes_in, nothing_kept};
-ghost use Rattle.follower.specs.Lives.{EachBehind, Life, Lives, place_behind_all, printed_over};
+ghost use Rattle.follower.specs.Lives.{EachBehind, Life, Lives, place_after_all, printed_over};
 ghost use Rattle.follower.specs.Standing.{Standing, Deed, Connects, Does, Runs, Tells};
 ghost use Rattle.follower.specs.Promise.{begun_at, printed_in, AreReceived, received_bytes};
 
@@ -60,9 +60,9 @@ pub fn no_acknowledgement_is_ahead()
 
 /// Of an output that holds whole transactions and notes, and after them a beginning of one more or nothing: a run finds the place
 /// after the last whole one, and cuts off what stands after that.
-pub fn a_run_goes_on_behind_the_last_whole_one()
+pub fn a_run_goes_on_after_the_last_whole_one()
     ensures { (ts : List Published) (whole part : List Line) →
         TellAll ts whole → BeginsOne part → bytes_in (whole ++ part) < 2 ^ 64 →
-        Finds (place_behind_all 0 ts) (bytes_in whole) (bytes_in part)
+        Finds (place_after_all 0 ts) (bytes_in whole) (bytes_in part)
         (with_lines nothing_kept (whole ++ part)) }
 {}

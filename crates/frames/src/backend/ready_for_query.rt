@@ -18,32 +18,32 @@ pub const READY_FOR_QUERY: u8 = b'Z';
 
 /// Whether a transaction block is open: `I`, `T` and `E`.
 #[derive(Clone, Copy, Debug, PartialEq, Eq)]
-pub enum Status {
+pub enum TransactionStatus {
     Idle,
     InTransaction,
     Failed,
 }
 
-impl Status {
+impl TransactionStatus {
     pub(crate) fn letter(self) -> u8
         ensures { result ≡ status_letter self }
     {
         match self {
-            Status::Idle => b'I',
-            Status::InTransaction => b'T',
-            Status::Failed => b'E',
+            TransactionStatus::Idle => b'I',
+            TransactionStatus::InTransaction => b'T',
+            TransactionStatus::Failed => b'E',
         }
     }
 }
 
-pub(crate) fn ready_of(body: &[u8]) -> Result<Status, FrameFault>
+pub(crate) fn ready_of(body: &[u8]) -> Result<TransactionStatus, FrameFault>
     ensures { result ≡ whole always (status_at body.now) }
 {
     let mut cursor = Cursor::new(body);
     let status = match byte(&mut cursor)? {
-        b'I' => Status::Idle,
-        b'T' => Status::InTransaction,
-        b'E' => Status::Failed,
+        b'I' => TransactionStatus::Idle,
+        b'T' => TransactionStatus::InTransaction,
+        b'E' => TransactionStatus::Failed,
         _ => return Err(FrameFault::BadBody),
     };
     end_of(&cursor)?;

@@ -9,7 +9,8 @@ use pqformat::Cursor;
 
 /// The body of the frame of this type byte at the front, and how many bytes the whole takes; None while it isn't there whole.
 ///
-/// Another type byte is F3 at once; a length under 4 is F1, and one over the limit F6, as soon as it is there.
+/// Another type byte is `UnknownType` (F3) at once; a length under 4 is `BadLength` (F1), and one over the limit `TooLong` (F6), as soon
+/// as it is there.
 pub fn body_alone(bytes: &[u8], kind: u8, most: u32) -> Result<Option<(&[u8], usize)>, FrameFault>
     ensures { lent result ≡ body_alone kind most bytes.now }
 {

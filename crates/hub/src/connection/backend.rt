@@ -239,6 +239,7 @@ impl<'h, L: LogName + SlotName, R: Wait + Clock, G: ServerObserver> Backend
         match begin_stream(&mut start) {
             Ok(stream) => {
                 self.latch = Some(stream.latch());
+                self.server_state.sockets.begin_stream(self.rt, self.number);
                 if let Some(unwritten) = self.mailbox.begin(self.rt, stream) {
                     end_stream(self.rt, self.server_state, unwritten.begin());
                 }

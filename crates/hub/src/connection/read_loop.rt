@@ -224,6 +224,7 @@ fn stop<L: LogName + SlotName, R: Wait + Clock, G: ServerObserver>(
         ≡ Phase.Stopping }
 {
     read.mailbox.await_end(read.rt)?;
+    read.server_state.sockets.end_stream(read.rt, read.number);
     state.latch = None;
     let mut said = BytesMut::new(read.server_state.alloc);
     let Ok(phase) = state.connection.stopped(&mut said) else {

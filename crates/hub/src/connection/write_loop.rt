@@ -146,32 +146,14 @@ fn write_begun<L: LogName + SlotName, R: Wait + Clock, G: ServerObserver>(
 ) -> Result<(), ConnectionEnd>
     requires { ∥ Serves (seen_of stream.old.walsender.reader) [] stream.old.walsender ∥₁ }
 {
-    let WriteLoop {
-        rt,
-        server_state,
-        mailbox,
-        socket,
-        observer,
-        number,
-    } = *write;
+    let (rt, server_state) = (write.rt, write.server_state);
     monitor.begin(rt, stream.latch());
-    server_state.await_release(rt, mailbox, monitor, stream.latch());
+    server_state.await_release(rt, write.mailbox, monitor, stream.latch());
     // What has woken it may be work, which waits for its first turn.
     server_state.tell_work(rt, stream.latch());
     inform(rt, server_state, stream);
     // It may have been held for long since the work was taken.
-    work.clock = mailbox.clock(rt);
-    let mut backend = StreamBackend {
-        write: WriteLoop {
-            rt,
-            server_state,
-            mailbox,
-            socket,
-            observer,
-            number,
-        },
-        monitor,
-    };
+    work.clock = write.mailbox.clock(rt);
     let mut metered = MeteredWriter {
         rt,
         monitor,
@@ -179,13 +161,13 @@ fn write_begun<L: LogName + SlotName, R: Wait + Clock, G: ServerObserver>(
     };
     let ended = write_stream(
         rt,
-        &mut backend,
+        &mut StreamBackend { write, monitor },
         &server_state.slots,
         stream,
         work,
         &mut metered,
     );
-    report(&backend.write, monitor, stream);
+    report(write, monitor, stream);
     if ended != Err(ConnectionEnd::FullArena) {
         return ended;
     }

@@ -3,7 +3,8 @@
 use indexmap::IndexSet;
 use shared_log::{LogName, LogReader};
 use std::alloc::{AllocError, Global};
-use wal::Body;
+use std::sync::Arc;
+use wal::{Body, Record};
 
 /// How many bytes a chunk of an arena has, and how many an entry takes beside a change's body: a position, and a line.
 const CHUNK: usize = 16_384;
@@ -94,11 +95,16 @@ impl Demand {
             if records.is_empty() {
                 break;
             }
-            for record in &records {
-                self.take(&record.body).ok()?;
-            }
+            self.take_all(&records).ok()?;
         }
         Some(())
+    }
+
+    fn take_all(&mut self, records: &[Arc<Record>]) -> Result<(), AllocError> {
+        for record in records {
+            self.take(&record.body)?;
+        }
+        Ok(())
     }
 
     fn take(&mut self, body: &Body) -> Result<(), AllocError> {

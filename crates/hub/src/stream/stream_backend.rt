@@ -10,13 +10,14 @@ use frames::{Back, write_back};
 use server::Phase;
 use shared_log::LogName;
 use slots::SlotName;
+use std::net::Shutdown;
 use std::sync::Wait;
 use std::time::Clock;
 
 /// The connection of a stream, and the monitor of its slot.
 #[derive(Drop)]
 pub(crate) struct StreamBackend<'h, L: LogName + SlotName, R: Wait, G: ServerObserver> {
-    pub write: WriteLoop<'h, L, R, G>,
+    pub write: &'h WriteLoop<'h, L, R, G>,
     pub monitor: &'h SlotMonitor,
 }
 
@@ -26,7 +27,7 @@ impl<'h, L: LogName + SlotName, R: Wait + Clock, G: ServerObserver> WorkBackend<
     ghost told = { λ old work new. Unit {0} };
 
     fn next(&mut self, stream: &mut Stream<L>) -> Work {
-        let (write, monitor) = (&self.write, self.monitor);
+        let (write, monitor) = (self.write, self.monitor);
         report(write, monitor, stream);
         if monitor.is_cut(write.rt) {
             inform(write.rt, write.server_state, stream);
@@ -39,7 +40,12 @@ impl<'h, L: LogName + SlotName, R: Wait + Clock, G: ServerObserver> WorkBackend<
     }
 
     fn last(&mut self) -> Work {
-        let write = &self.write;
+        let write = self.write;
+        if write.server_state.is_ending() {
+            // Closed at once, the connection would be reset by a status that still comes, and what was sent be lost.
+            let _ = write.socket.shutdown(Shutdown::Write);
+            write.mailbox.await_last_status(write.rt);
+        }
         break_off(write);
         write.mailbox.await_close(write.rt);
         write.mailbox.take(write.rt)

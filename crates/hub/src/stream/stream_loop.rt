@@ -5,7 +5,7 @@ ghost use Rattle.shared_log.specs.Readers.{seen_of};
 ghost use Rattle.walsender.specs.Serving.{Serves};
 ghost use Rattle.std.specs.Io.KnownBytes.{Appends};
 ghost use Rattle.hub.specs.Streams.{StreamsOn, WordsBehind, words_of};
-ghost use Rattle.hub.specs.Turns.{Ended, EndsBy, EndsTurns, LeavesSlot, TakesTurns, end_of_fault, standing, stream_error_of};
+ghost use Rattle.hub.specs.Turns.{CameInPart, Ended, EndsBy, EndsTurns, LeavesSlot, TakesTurns, end_of_fault, standing, stream_error_of};
 
 use crate::stream::streaming::Stream;
 use crate::stream::work_backend::WorkBackend;
@@ -16,7 +16,7 @@ use slots::{SlotName, SlotTable};
 use std::io;
 use std::io::Write;
 use std::sync::Wait;
-use walsender::{SendFault, TurnFault};
+use walsender::{SendFault, TurnFault, write_front};
 
 /// Writes a stream, and after it what is said at its end. Where its client did not ask for that, the connection is over, and
 /// what the client flushed last is confirmed too: all that it sent has been read by then. `Client` where the client is gone or
@@ -120,8 +120,10 @@ pub(crate) fn say<W: Write>(work: &Work, to: &mut W) -> Result<(), ConnectionEnd
     ensures said { OnOk result
         (Appends (W.contents to.old) (W.contents to.new) work.now.said.items) }
     ensures err { IfErr result (λ end. end ≡ ConnectionEnd.Client) }
+    ensures part { CameInPart work.now.said.items (W.contents to.old) (W.contents to.new) }
 {
-    if to.write_all(work.said.as_slice()).is_err() || work.phase == Phase::Closed {
+    let (_, written) = write_front(to, work.said.as_slice());
+    if written.is_err() || work.phase == Phase::Closed {
         return Err(ConnectionEnd::Client);
     }
     Ok(())

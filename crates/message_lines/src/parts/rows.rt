@@ -11,7 +11,7 @@ ghost use Rattle.pgoutput.specs.declared.parts.tuple.Cell.TheVariants as cells;
 
 use crate::fault::LineFault;
 use crate::parts::members::put_text;
-use crate::parts::part::Part;
+use crate::parts::told_values::ToldValues;
 use crate::parts::values::put_value;
 use crate::telling::kinds::put_kind;
 use json::Writer;
@@ -23,7 +23,7 @@ pub(crate) fn put_row(
     alloc: Global,
     out: &mut Writer,
     name: &str,
-    part: Part,
+    part: ToldValues,
     relation: &Relation,
     row: &[Cell],
 ) -> Result<(), LineFault>
@@ -42,7 +42,7 @@ pub(crate) fn put_row(
 fn put_cells(
     alloc: Global,
     out: &mut Writer,
-    part: Part,
+    part: ToldValues,
     columns: &[Column],
     row: &[Cell],
 ) -> Result<(), LineFault>
@@ -71,7 +71,7 @@ fn put_cells(
 fn put_cell(
     alloc: Global,
     out: &mut Writer,
-    part: Part,
+    part: ToldValues,
     column: &Column,
     cell: &Cell,
 ) -> Result<(), AllocError>
@@ -86,7 +86,12 @@ fn put_cell(
     }
 }
 
-fn put_null(alloc: Global, out: &mut Writer, part: Part, column: &Column) -> Result<(), AllocError>
+fn put_null(
+    alloc: Global,
+    out: &mut Writer,
+    part: ToldValues,
+    column: &Column,
+) -> Result<(), AllocError>
     ensures tokens { OnOk result
         (out.new.tokens ≡ out.old.tokens ++ cell_tokens part column.now cells.Null) }
     ensures before { out.new.before ≡ out.old.before }
@@ -126,11 +131,11 @@ fn begin_column(alloc: Global, out: &mut Writer, column: &Column) -> Result<(), 
 }
 
 /// Whether a null of the column is told.
-fn is_told(part: Part, column: &Column) -> bool
+fn is_told(part: ToldValues, column: &Column) -> bool
     ensures { result ≡ is_told part column.now }
 {
     match part {
-        Part::Whole => true,
-        Part::Key => column.is_key,
+        ToldValues::Whole => true,
+        ToldValues::Key => column.is_key,
     }
 }

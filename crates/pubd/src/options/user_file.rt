@@ -1,6 +1,6 @@
 //! `--passwords FILE`: who may connect.
 
-use authentication::{BadLine, LineFault, SECRET_BYTES, User, Users, users_in};
+use authentication::{BadUserLine, SECRET_BYTES, User, UserLineFault, Users, users_in};
 use pqformat::Items;
 use std::alloc::{AllocError, Global};
 use std::fs::{File, Files};
@@ -12,7 +12,7 @@ use thiserror::Error;
 #[derive(Clone, Copy, Debug, PartialEq, Eq)]
 pub enum UserFault {
     Read(io::ErrorKind),
-    Line(BadLine),
+    Line(BadUserLine),
     Memory,
 }
 
@@ -31,7 +31,7 @@ impl fmt::Display for UserFault {
     fn fmt<W: fmt::Write>(&self, f: &mut fmt::Formatter<W>) -> fmt::Result {
         match self {
             UserFault::Read(kind) => write!(f, "the file of passwords cannot be read: {kind}"),
-            UserFault::Line(BadLine { number, fault }) => {
+            UserFault::Line(BadUserLine { number, fault }) => {
                 write!(
                     f,
                     "line {number} of the file of passwords is no user's: {fault}"
@@ -93,8 +93,8 @@ fn users_at<R: Files>(rt: &R, alloc: Global, path: &str) -> Result<Items<User>, 
     match users_in(alloc, text.as_str()) {
         Ok(users) => Ok(users),
         Err(
-            BadLine {
-                fault: LineFault::Memory,
+            BadUserLine {
+                fault: UserLineFault::Memory,
                 ..
             },
         ) => Err(UserFault::Memory),

@@ -3,7 +3,7 @@
 use crate::fault::Fault;
 use crate::running::termination::{SIGNALS, Termination, blocks_signal, watch_signals};
 use crate::scripting::{InputLines, read_input};
-use crate::standard_error::telling::{Told, write_told};
+use crate::standard_error::error_log::{ErrorLog, write_told};
 use std::alloc::{AllocError, Global};
 use std::fs::File;
 use std::io::Stdin;
@@ -17,11 +17,11 @@ pub(crate) fn begin_telling<R>(
     host: &R,
     alloc: Global,
     places: usize,
-) -> Result<Arc<Told, Global>, AllocError>
+) -> Result<Arc<ErrorLog, Global>, AllocError>
 where
     R: Threads + Wait + Eprint + Copy + Send + 'static,
 {
-    let told = Arc::new(alloc, Told::new(alloc, places))?;
+    let told = Arc::new(alloc, ErrorLog::new(alloc, places))?;
     let theirs = Arc::try_clone(&told)?;
     let rt = *host;
     thread::spawn(host, move || write_told(&rt, &theirs))?;

@@ -7,9 +7,9 @@ use std::thread::Threads;
 use std::time::Clock;
 
 /// What each thread has a copy of, for as long as it runs.
-pub(crate) trait Shared: Copy + Send + Sync + 'static {}
+pub(crate) trait SharedHost: Copy + Send + Sync + 'static {}
 
-impl<R> Shared for R
+impl<R> SharedHost for R
 where
     R: Copy + Send + Sync + 'static,
 {}
@@ -21,7 +21,7 @@ pub(crate) trait Host: Net<Listener = TcpListener, Stream = TcpStream>
     + Clock
     + RandomSource
     + Eprint
-    + Shared {}
+    + SharedHost {}
 
 impl<R> Host for R
 where
@@ -31,5 +31,5 @@ where
         + Clock
         + RandomSource
         + Eprint
-        + Shared,
+        + SharedHost,
 {}

@@ -2,7 +2,7 @@
 
 use crate::running::ending::{ListenerHandles, end_server};
 use crate::scripting::{Script, ScriptEnd, ScriptFault, run_steps};
-use crate::standard_error::telling::Told;
+use crate::standard_error::error_log::ErrorLog;
 use hub::Hub;
 use shared_log::LogName;
 use slots::SlotName;
@@ -19,7 +19,7 @@ pub fn run_all<L, R>(
     hub: &Hub<L>,
     scripts: &[Script],
     listeners: &ListenerHandles,
-    told: &Told,
+    told: &ErrorLog,
     early: &AtomicBool,
 )
 where
@@ -41,7 +41,7 @@ fn run_one<L, R>(
     hub: &Hub<L>,
     script: &Script,
     listeners: &ListenerHandles,
-    told: &Told,
+    told: &ErrorLog,
     early: &AtomicBool,
 )
 where
@@ -59,7 +59,7 @@ pub fn has_ended_server<R: Wait>(
     rt: &R,
     name: &str,
     ended: Result<ScriptEnd, ScriptFault>,
-    told: &Told,
+    told: &ErrorLog,
     early: &AtomicBool,
 ) -> bool {
     match ended {

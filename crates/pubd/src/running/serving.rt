@@ -6,9 +6,9 @@ use crate::fault::Fault;
 use crate::running::ending::{ListenerHandles, end_server};
 use crate::running::scripts::{has_ended_server, run_all};
 use crate::scripting::{Driven, STANDARD_INPUT, Script, run_input};
+use crate::standard_error::error_log::ErrorLog;
 use crate::standard_error::level::Level;
 use crate::standard_error::reports::Reports;
-use crate::standard_error::telling::Told;
 use crate::status::status_page::serve_status;
 use hub::{Hub, HubBuilder, serve};
 use shared_log::LogName;
@@ -25,7 +25,7 @@ use std::{io, thread};
 
 /// What is served, and what runs beside it.
 #[derive(Clone, Copy)]
-pub(crate) struct Service<'a> {
+pub(crate) struct ServerParts<'a> {
     pub(crate) listener: &'a TcpListener,
     /// Where it is told what runs.
     pub(crate) page: Option<&'a TcpListener>,
@@ -45,8 +45,8 @@ pub(crate) struct Service<'a> {
 pub(crate) fn served<L, R, O>(
     rt: &R,
     opened: HubBuilder,
-    service: &Service,
-    told: &Told,
+    service: &ServerParts,
+    told: &ErrorLog,
     output: &O,
 ) -> Result<(), Fault>
 where
@@ -67,8 +67,8 @@ where
 fn serve_beside_all<L, R, O>(
     rt: &R,
     hub: &Hub<L>,
-    service: &Service,
-    told: &Told,
+    service: &ServerParts,
+    told: &ErrorLog,
     output: &O,
 ) -> Result<(), Fault>
 where
@@ -89,8 +89,8 @@ where
 fn serve_beside<L, R, O>(
     rt: &R,
     hub: &Hub<L>,
-    service: &Service,
-    told: &Told,
+    service: &ServerParts,
+    told: &ErrorLog,
     output: &O,
     early: &AtomicBool,
 ) -> Result<(), AllocError>
@@ -144,7 +144,7 @@ fn was_spawned<T: Drop, E: Drop>(spawned: Result<T, E>) -> bool {
 }
 
 /// A thread can't be had: those that run are ended.
-fn give_up<L, R>(rt: &R, hub: &Hub<L>, service: &Service) -> Result<(), AllocError>
+fn give_up<L, R>(rt: &R, hub: &Hub<L>, service: &ServerParts) -> Result<(), AllocError>
 where
     L: LogName + SlotName,
     R: Wait + Clock,
@@ -159,8 +159,8 @@ where
 fn run_lines<L, R, O>(
     rt: &R,
     hub: &Hub<L>,
-    service: &Service,
-    told: &Told,
+    service: &ServerParts,
+    told: &ErrorLog,
     output: &O,
     early: &AtomicBool,
 )
@@ -185,7 +185,7 @@ where
 }
 
 /// Ends the server once the process is told to end.
-fn end_when_told<L, R>(rt: &R, hub: &Hub<L>, service: &Service)
+fn end_when_told<L, R>(rt: &R, hub: &Hub<L>, service: &ServerParts)
 where
     L: LogName + SlotName,
     R: Wait + Clock,
@@ -196,7 +196,7 @@ where
 }
 
 /// Tells whoever asks what runs, if there is a place for that.
-fn show<L, R>(rt: &R, hub: &Hub<L>, service: &Service, told: &Told)
+fn show<L, R>(rt: &R, hub: &Hub<L>, service: &ServerParts, told: &ErrorLog)
 where
     L: LogName + SlotName,
     R: Wait + Clock + RandomSource,
@@ -210,7 +210,7 @@ where
 }
 
 /// Serves until the last connection has ended. Why it ended early is told at once, and by `early`.
-fn serve_all<L, R>(rt: &R, hub: &Hub<L>, service: &Service, told: &Told, early: &AtomicBool)
+fn serve_all<L, R>(rt: &R, hub: &Hub<L>, service: &ServerParts, told: &ErrorLog, early: &AtomicBool)
 where
     L: LogName + SlotName + Send + Sync,
     R: Threads + Wait + Clock + RandomSource + Sync,
@@ -228,7 +228,13 @@ where
 }
 
 /// The scripts begin once the streams that they await have begun.
-fn run_awaited<L, R>(rt: &R, hub: &Hub<L>, service: &Service, told: &Told, early: &AtomicBool)
+fn run_awaited<L, R>(
+    rt: &R,
+    hub: &Hub<L>,
+    service: &ServerParts,
+    told: &ErrorLog,
+    early: &AtomicBool,
+)
 where
     L: LogName + SlotName + Send + Sync,
     R: Threads + Wait + Clock + RandomSource + Sync,

@@ -27,12 +27,12 @@ const LOOK: u64 = 500;
 /// Whether the process was told to end, for whoever waits for that.
 #[derive(Drop)]
 pub struct Termination {
-    stage: Mutex<Stage>,
+    stage: Mutex<TerminationState>,
     changed: Condvar,
 }
 
 #[derive(Clone, Copy, PartialEq, Eq)]
-enum Stage {
+enum TerminationState {
     Awaited,
     Told,
     /// The server has ended.
@@ -43,7 +43,7 @@ impl Termination {
     /// Nobody was told yet. `AllocError` where memory for what threads share is refused.
     pub fn new(alloc: Global) -> Result<Arc<Self, Global>, AllocError> {
         let awaited = Termination {
-            stage: Mutex::new(Stage::Awaited),
+            stage: Mutex::new(TerminationState::Awaited),
             changed: Condvar::new(),
         };
         Ok(Arc::new(alloc, awaited)?)
@@ -51,18 +51,20 @@ impl Termination {
 
     /// Waits until the process is told to end, or the server has ended, which is false.
     pub fn is_told<R: Wait>(&self, rt: &R) -> bool {
-        let stage = self
-            .changed
-            .wait_while(rt, self.stage.lock(rt), |stage| *stage == Stage::Awaited);
-        *stage == Stage::Told
+        let stage = self.changed.wait_while(
+            rt,
+            self.stage.lock(rt),
+            |stage| *stage == TerminationState::Awaited,
+        );
+        *stage == TerminationState::Told
     }
 
     /// The server has ended: nobody waits any more.
     pub fn close<R: Wait>(&self, rt: &R) {
-        self.enter(rt, Stage::Over);
+        self.enter(rt, TerminationState::Over);
     }
 
-    fn enter<R: Wait>(&self, rt: &R, next: Stage) {
+    fn enter<R: Wait>(&self, rt: &R, next: TerminationState) {
         let mut stage = self.stage.lock(rt);
         *stage = next;
         drop(stage);
@@ -70,7 +72,7 @@ impl Termination {
     }
 
     fn is_over<R: Wait>(&self, rt: &R) -> bool {
-        *self.stage.lock(rt) == Stage::Over
+        *self.stage.lock(rt) == TerminationState::Over
     }
 }
 
@@ -81,7 +83,7 @@ pub fn watch_signals<R: Wait + Clock>(rt: &R, signals: &File, termination: &Term
             return;
         }
         match has_signal(signals, PENDING) {
-            Ok(true) => return termination.enter(rt, Stage::Told),
+            Ok(true) => return termination.enter(rt, TerminationState::Told),
             Ok(false) => thread::sleep(rt, Duration::from_millis(LOOK)),
             Err(_) => return,
         }

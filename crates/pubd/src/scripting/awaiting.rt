@@ -1,7 +1,7 @@
 //! Lines that wait for a stream.
 
 use super::outcome::Done;
-use super::refusal::{Refusal, Unmet};
+use super::refusal::{ScriptRefusal, Unmet};
 use super::step::{Await, Until};
 use crate::running::ending::ListenerHandles;
 use hub::{Hub, SteerFault};
@@ -44,7 +44,7 @@ impl<'a> Waiting<'a> {
         let are_over = listeners.are_connections_over();
         match self.look(rt, hub) {
             Ok(true) => Some(Done::Steered),
-            Err(_) => Some(Done::Refused(Refusal::NoSlot)),
+            Err(_) => Some(Done::Refused(ScriptRefusal::NoSlot)),
             Ok(false) if hub.is_ending() => Some(unmet(Unmet::Ending)),
             Ok(false) if are_over => Some(unmet(Unmet::NoConnections)),
             Ok(false) if self.is_late(rt) => Some(unmet(Unmet::Late)),
@@ -87,5 +87,5 @@ impl<'a> Waiting<'a> {
 
 /// What comes of a line whose wait is over for this.
 pub(crate) fn unmet(why: Unmet) -> Done {
-    Done::Refused(Refusal::Unmet(why))
+    Done::Refused(ScriptRefusal::Unmet(why))
 }

@@ -1,13 +1,13 @@
 //! How a step is done beside connections.
 
 use super::outcome::Done;
-use super::refusal::Refusal;
+use super::refusal::ScriptRefusal;
 use super::step::Steering;
 use crate::running::ending::ListenerHandles;
 use copyboth::clock_now;
 use hub::{Hub, Left, SteerFault};
 use pqformat::Text;
-use schedule::{Answer, Event, SessionStep, Sessions, WorldFault};
+use schedule::{Event, SessionAnswer, SessionStep, Sessions, WorldFault};
 use shared_log::LogName;
 use slots::SlotName;
 use std::alloc::AllocError;
@@ -29,7 +29,7 @@ pub(crate) fn steer<L: LogName + SlotName, R: Wait>(
     };
     match steered {
         Ok(()) => Done::Steered,
-        Err(SteerFault::Missing) => Done::Refused(Refusal::NoSlot),
+        Err(SteerFault::Missing) => Done::Refused(ScriptRefusal::NoSlot),
     }
 }
 
@@ -40,14 +40,14 @@ where
     R: Wait,
 {
     let Some(file) = &listeners.passwords else {
-        return Done::Refused(Refusal::NoPasswords);
+        return Done::Refused(ScriptRefusal::NoPasswords);
     };
     match file.users(hub.alloc()) {
         Ok(users) => {
             hub.replace_users(rt, users);
             Done::Steered
         }
-        Err(fault) => Done::Refused(Refusal::Users(fault)),
+        Err(fault) => Done::Refused(ScriptRefusal::Users(fault)),
     }
 }
 
@@ -81,18 +81,21 @@ pub(crate) fn do_event<'h, L: LogName + SlotName, R: Wait + Clock>(
 /// What a session's line comes to, in a log of which so many records are kept, and what it leaves for streams.
 fn done_by<L: LogName>(
     event: &Event,
-    line: Result<(Answer, Option<Receipt<L>>), WorldFault>,
+    line: Result<(SessionAnswer, Option<Receipt<L>>), WorldFault>,
     kept: usize,
 ) -> (Result<Done, AllocError>, Left<L>) {
     match line {
-        Ok((answer, Some(receipt))) => {
-            let done = committed(&answer, receipt.end(), kept);
-            (Ok(done), Left::Commit(receipt))
+        Ok((SessionAnswer::Refused(fault), _)) => {
+            (
+                Ok(Done::Refused(ScriptRefusal::Session(fault))),
+                Left::Nothing,
+            )
         }
-        Ok((Answer::Session(fault), None)) => {
-            (Ok(Done::Refused(Refusal::Session(fault))), Left::Nothing)
+        Ok((SessionAnswer::Done, Some(receipt))) => {
+            let end = receipt.end();
+            (Ok(Done::Commit { end, kept }), Left::Commit(receipt))
         }
-        Ok((_, None)) => (Ok(Done::Line), left_by(event)),
+        Ok((SessionAnswer::Done, None)) => (Ok(Done::Line), left_by(event)),
         Err(WorldFault::BadEvent) => (Ok(Done::Refused(not_now(event))), Left::Nothing),
         Err(WorldFault::Memory | WorldFault::NoEntry) => (Err(AllocError), Left::Nothing),
     }
@@ -107,17 +110,9 @@ fn left_by<L: LogName>(event: &Event) -> Left<L> {
 }
 
 /// Why a session's line can't be done where it stands.
-fn not_now(event: &Event) -> Refusal {
+fn not_now(event: &Event) -> ScriptRefusal {
     match event {
-        Event::Session(_, SessionStep::Begin) => Refusal::SecondBegin,
-        _ => Refusal::NoTransaction,
-    }
-}
-
-/// What a commit came to, after which the log ends there.
-fn committed(answer: &Answer, end: u64, kept: usize) -> Done {
-    match answer {
-        Answer::Session(fault) => Done::Refused(Refusal::Session(*fault)),
-        _ => Done::Commit { end, kept },
+        Event::Session(_, SessionStep::Begin) => ScriptRefusal::SecondBegin,
+        _ => ScriptRefusal::NoTransaction,
     }
 }

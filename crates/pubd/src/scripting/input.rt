@@ -3,15 +3,15 @@
 use super::awaiting::{Waiting, unmet};
 use super::done::steer;
 use super::fault::ScriptFault;
-use super::input_lines::{Came, InputLines};
+use super::input_lines::{InputLine, InputLines};
 use super::leaving::leave_all;
 use super::lines::{content_of, is_passed_over};
 use super::outcome::Done;
-use super::refusal::{Refusal, Unmet};
-use super::step::{Await, Step};
+use super::refusal::{ScriptRefusal, Unmet};
+use super::step::{Await, ScriptStep};
 use super::steps::{ScriptEnd, do_step};
 use crate::running::ending::ListenerHandles;
-use crate::standard_error::telling::Told;
+use crate::standard_error::error_log::ErrorLog;
 use hub::Hub;
 use schedule::{BadLine, LineRefusal, Sessions};
 use shared_log::LogName;
@@ -32,15 +32,15 @@ pub struct Driven<'a, L: LogName + SlotName, R> {
     pub hub: &'a Hub<L>,
     pub listeners: &'a ListenerHandles,
     pub input: &'a InputLines,
-    pub told: &'a Told,
+    pub told: &'a ErrorLog,
     /// Whether the end of the input is that of the server.
     pub ends_with_input: bool,
 }
 
 /// A line that isn't answered yet.
 #[derive(Drop)]
-enum Pending {
-    Step(Step),
+enum PendingLine {
+    Step(ScriptStep),
     /// It was done before those in front of it, or is no line.
     Done(Done),
 }
@@ -48,7 +48,7 @@ enum Pending {
 /// Lines that came while one waits.
 #[derive(Drop)]
 struct Kept {
-    lines: VecDeque<Pending>,
+    lines: VecDeque<PendingLine>,
     /// The server is to end, so nothing is awaited any more.
     is_ending: bool,
 }
@@ -66,7 +66,11 @@ pub fn run_input<L: LogName + SlotName, R: Wait + Clock, O: Print>(
     output: &O,
 ) -> Result<ScriptEnd, ScriptFault> {
     let mut sessions = Sessions::new(driven.hub.alloc());
-    let ended = answer_lines(driven, &mut sessions, output);
+    let mut kept = Kept {
+        lines: VecDeque::new(driven.hub.alloc()),
+        is_ending: false,
+    };
+    let ended = answer_lines(driven, &mut sessions, &mut kept, output);
     leave_all(driven.rt, driven.hub, sessions);
     ended
 }
@@ -74,19 +78,18 @@ pub fn run_input<L: LogName + SlotName, R: Wait + Clock, O: Print>(
 fn answer_lines<L: LogName + SlotName, R: Wait + Clock, O: Print>(
     driven: &Driven<'_, L, R>,
     sessions: &mut Sessions,
+    kept: &mut Kept,
     output: &O,
 ) -> Result<ScriptEnd, ScriptFault> {
-    let mut kept = Kept {
-        lines: VecDeque::new(driven.hub.alloc()),
-        is_ending: false,
-    };
     for _ in driven.rt.forever() {
-        let Some(pending) = next_line(driven, &mut kept)? else {
+        let Some(pending) = next_line(driven, kept)? else {
             return Ok(ScriptEnd::LastLine);
         };
-        let done = do_pending(driven, sessions, &mut kept, &pending)?;
-        driven.told.done(driven.rt, done);
-        println!(output; "{done}").map_err(ScriptFault::Answers)?;
+        let done = do_pending(driven, sessions, kept, &pending);
+        // What a line holds would be let go on each way out.
+        drop(pending);
+        let done = done?;
+        answer(driven, done, output)?;
         if matches!(done, Done::End) {
             return Ok(ScriptEnd::EndLine);
         }
@@ -94,18 +97,28 @@ fn answer_lines<L: LogName + SlotName, R: Wait + Clock, O: Print>(
     unreachable!()
 }
 
+/// Answers what a line came to.
+fn answer<L: LogName + SlotName, R: Wait, O: Print>(
+    driven: &Driven<'_, L, R>,
+    done: Done,
+    output: &O,
+) -> Result<(), ScriptFault> {
+    driven.told.done(driven.rt, done);
+    println!(output; "{done}").map_err(ScriptFault::Answers)
+}
+
 /// The next line that is answered. None: no more come.
 fn next_line<L: LogName + SlotName, R: Wait>(
     driven: &Driven<'_, L, R>,
     kept: &mut Kept,
-) -> Result<Option<Pending>, ScriptFault> {
+) -> Result<Option<PendingLine>, ScriptFault> {
     if let Some(pending) = kept.lines.pop_front() {
         return Ok(Some(pending));
     }
     for _ in driven.rt.forever() {
         match driven.input.next(driven.rt) {
-            Came::Over => return Ok(None),
-            Came::Failed(kind) => return Err(ScriptFault::Lines(kind)),
+            InputLine::Over => return Ok(None),
+            InputLine::Failed(kind) => return Err(ScriptFault::Lines(kind)),
             came => {
                 if let Some(pending) = pending_of(driven.hub.alloc(), came)? {
                     return Ok(Some(pending));
@@ -117,39 +130,39 @@ fn next_line<L: LogName + SlotName, R: Wait>(
 }
 
 /// What is to be answered of a line that came, if anything is.
-fn pending_of(alloc: Global, came: Came) -> Result<Option<Pending>, AllocError> {
+fn pending_of(alloc: Global, came: InputLine) -> Result<Option<PendingLine>, AllocError> {
     match came {
-        Came::Line(text) => pending_in(alloc, content_of(text.as_str())),
-        Came::NotUtf8 => Ok(Some(bad(BadLine::NotUtf8))),
-        Came::Over | Came::Failed(_) => Ok(None),
+        InputLine::Line(text) => pending_in(alloc, content_of(text.as_str())),
+        InputLine::NotUtf8 => Ok(Some(bad(BadLine::NotUtf8))),
+        InputLine::Over | InputLine::Failed(_) => Ok(None),
     }
 }
 
-fn pending_in(alloc: Global, content: &str) -> Result<Option<Pending>, AllocError> {
+fn pending_in(alloc: Global, content: &str) -> Result<Option<PendingLine>, AllocError> {
     if is_passed_over(content) {
         return Ok(None);
     }
-    match Step::parse(alloc, content) {
-        Ok(step) => Ok(Some(Pending::Step(step))),
+    match ScriptStep::parse(alloc, content) {
+        Ok(step) => Ok(Some(PendingLine::Step(step))),
         Err(LineRefusal::Bad(why)) => Ok(Some(bad(why))),
         Err(LineRefusal::Memory) => Err(AllocError),
     }
 }
 
-fn bad(why: BadLine) -> Pending {
-    Pending::Done(Done::Refused(Refusal::Line(why)))
+fn bad(why: BadLine) -> PendingLine {
+    PendingLine::Done(Done::Refused(ScriptRefusal::Line(why)))
 }
 
 fn do_pending<L: LogName + SlotName, R: Wait + Clock>(
     driven: &Driven<'_, L, R>,
     sessions: &mut Sessions,
     kept: &mut Kept,
-    pending: &Pending,
+    pending: &PendingLine,
 ) -> Result<Done, AllocError> {
     match pending {
-        Pending::Done(done) => Ok(*done),
-        Pending::Step(Step::Await(line)) => wait_out(driven, kept, line),
-        Pending::Step(step) => do_step(driven.rt, driven.hub, driven.listeners, sessions, step),
+        PendingLine::Done(done) => Ok(*done),
+        PendingLine::Step(ScriptStep::Await(line)) => wait_out(driven, kept, line),
+        PendingLine::Step(step) => do_step(driven.rt, driven.hub, driven.listeners, sessions, step),
     }
 }
 
@@ -180,7 +193,7 @@ fn let_pass<L: LogName + SlotName, R: Wait>(
     for _ in kept.lines.len()..MOST_KEPT {
         match driven.input.next_if_any(driven.rt) {
             None => return Ok(()),
-            Some(Came::Over | Came::Failed(_)) => {
+            Some(InputLine::Over | InputLine::Failed(_)) => {
                 kept.is_ending = kept.is_ending || driven.ends_with_input;
                 return Ok(());
             }
@@ -197,20 +210,26 @@ fn let_pass<L: LogName + SlotName, R: Wait>(
 fn keep<L: LogName + SlotName, R: Wait>(
     driven: &Driven<'_, L, R>,
     kept: &mut Kept,
-    pending: Pending,
+    pending: PendingLine,
 ) -> Result<(), AllocError> {
-    let done = match &pending {
-        Pending::Step(Step::Steer(slot, steering)) => {
-            Some(steer(driven.rt, driven.hub, slot.as_str(), *steering))
+    let pending = passed(driven, &mut kept.is_ending, pending);
+    Ok(kept.lines.push_back(pending)?)
+}
+
+/// What is left to do of a line that came while one waits: one that steers is done.
+fn passed<L: LogName + SlotName, R: Wait>(
+    driven: &Driven<'_, L, R>,
+    is_ending: &mut bool,
+    pending: PendingLine,
+) -> PendingLine {
+    match pending {
+        PendingLine::Step(ScriptStep::Steer(slot, steering)) => {
+            PendingLine::Done(steer(driven.rt, driven.hub, slot.as_str(), steering))
         }
-        Pending::Step(Step::End) => {
-            kept.is_ending = true;
-            None
+        PendingLine::Step(ScriptStep::End) => {
+            *is_ending = true;
+            PendingLine::Step(ScriptStep::End)
         }
-        _ => None,
-    };
-    match done {
-        Some(done) => Ok(kept.lines.push_back(Pending::Done(done))?),
-        None => Ok(kept.lines.push_back(pending)?),
+        other => other,
     }
 }

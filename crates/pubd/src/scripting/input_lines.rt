@@ -13,13 +13,13 @@ const MOST_LINES: usize = 1000;
 #[derive(Drop)]
 pub struct InputLines {
     alloc: Global,
-    unread: Mutex<Unread>,
+    unread: Mutex<LineQueue>,
     changed: Condvar,
 }
 
 /// A line that has come, or that none comes any more.
 #[derive(Drop)]
-pub(crate) enum Came {
+pub(crate) enum InputLine {
     Line(String),
     /// A line that isn't UTF-8.
     NotUtf8,
@@ -28,7 +28,7 @@ pub(crate) enum Came {
 }
 
 #[derive(Drop)]
-struct Unread {
+struct LineQueue {
     /// None: a line that isn't UTF-8.
     lines: VecDeque<Option<String>>,
     /// The input has ended, by this error if it was none of its own.
@@ -41,7 +41,7 @@ impl InputLines {
     pub fn new(alloc: Global) -> Self {
         InputLines {
             alloc,
-            unread: Mutex::new(Unread {
+            unread: Mutex::new(LineQueue {
                 lines: VecDeque::new(alloc),
                 end: None,
                 is_closed: false,
@@ -59,18 +59,18 @@ impl InputLines {
     }
 
     /// The next line, once it has come.
-    pub(crate) fn next<R: Wait>(&self, rt: &R) -> Came {
+    pub(crate) fn next<R: Wait>(&self, rt: &R) -> InputLine {
         let mut unread = self
             .changed
             .wait_while(rt, self.unread.lock(rt), |unread| unread.is_quiet());
         let came = unread.take();
         drop(unread);
         self.changed.notify_all();
-        came.unwrap_or(Came::Over)
+        came.unwrap_or(InputLine::Over)
     }
 
     /// The next line, if it has come.
-    pub(crate) fn next_if_any<R: Wait>(&self, rt: &R) -> Option<Came> {
+    pub(crate) fn next_if_any<R: Wait>(&self, rt: &R) -> Option<InputLine> {
         let mut unread = self.unread.lock(rt);
         let came = unread.take();
         drop(unread);
@@ -97,7 +97,7 @@ impl InputLines {
     }
 }
 
-impl Unread {
+impl LineQueue {
     fn is_quiet(&self) -> bool {
         self.lines.is_empty() && self.end.is_none() && !self.is_closed
     }
@@ -113,21 +113,21 @@ impl Unread {
         !self.is_closed && self.end.is_none()
     }
 
-    fn take(&mut self) -> Option<Came> {
+    fn take(&mut self) -> Option<InputLine> {
         if self.is_closed {
-            return Some(Came::Over);
+            return Some(InputLine::Over);
         }
         match self.lines.pop_front() {
-            Some(Some(line)) => Some(Came::Line(line)),
-            Some(None) => Some(Came::NotUtf8),
+            Some(Some(line)) => Some(InputLine::Line(line)),
+            Some(None) => Some(InputLine::NotUtf8),
             None => self.ended(),
         }
     }
 
-    fn ended(&self) -> Option<Came> {
+    fn ended(&self) -> Option<InputLine> {
         match self.end {
-            Some(Some(kind)) => Some(Came::Failed(kind)),
-            Some(None) => Some(Came::Over),
+            Some(Some(kind)) => Some(InputLine::Failed(kind)),
+            Some(None) => Some(InputLine::Over),
             None => None,
         }
     }

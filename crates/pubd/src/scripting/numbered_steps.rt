@@ -1,7 +1,7 @@
 //! Scripts: the steps of their lines.
 
 use super::lines::{content_of, is_passed_over};
-use super::step::Step;
+use super::step::ScriptStep;
 use schedule::LineRefusal;
 use std::alloc::Global;
 
@@ -15,7 +15,7 @@ pub struct Steps {
 #[derive(Drop)]
 pub struct NumberedStep {
     pub line: usize,
-    pub step: Step,
+    pub step: ScriptStep,
 }
 
 /// The line of a script that was not read, and why.
@@ -50,7 +50,7 @@ impl Steps {
     }
 
     fn add(&mut self, alloc: Global, line: usize, content: &str) -> Result<(), LineRefusal> {
-        let step = Step::parse(alloc, content)?;
+        let step = ScriptStep::parse(alloc, content)?;
         self.steps.push(NumberedStep { line, step })?;
         Ok(())
     }

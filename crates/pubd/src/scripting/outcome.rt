@@ -1,6 +1,6 @@
 //! What comes of the lines of a script.
 
-use super::refusal::Refusal;
+use super::refusal::ScriptRefusal;
 use std::fmt;
 
 /// What came of a line.
@@ -12,7 +12,7 @@ pub enum Done {
     Commit { end: u64, kept: usize },
     /// A stream was steered, or waited for, or those that may connect were read again.
     Steered,
-    Refused(Refusal),
+    Refused(ScriptRefusal),
     /// The server is to end.
     End,
 }

@@ -8,7 +8,7 @@ use txlog::SessionFault;
 
 /// Why a line was refused, which has changed nothing. It is told by its code and words.
 #[derive(Clone, Copy, Debug)]
-pub enum Refusal {
+pub enum ScriptRefusal {
     /// It is no line.
     Line(BadLine),
     /// Its transaction isn't in progress.
@@ -36,17 +36,21 @@ pub enum Unmet {
     Ending,
 }
 
-impl fmt::Display for Refusal {
+impl fmt::Display for ScriptRefusal {
     fn fmt<W: fmt::Write>(&self, f: &mut fmt::Formatter<W>) -> fmt::Result {
         match self {
-            Refusal::Line(bad) => write!(f, "V1 {bad}"),
-            Refusal::NoTransaction => f.write_str("V1 no transaction of this name is in progress"),
-            Refusal::SecondBegin => f.write_str("V1 a transaction of this name is in progress"),
-            Refusal::Session(fault) => write!(f, "{} {fault}", fault.code()),
-            Refusal::NoSlot => f.write_str("L1 there is no such slot"),
-            Refusal::Unmet(why) => write!(f, "A1 {why}"),
-            Refusal::NoPasswords => f.write_str("A2 no passwords are asked"),
-            Refusal::Users(fault) => write!(f, "A2 {fault}"),
+            ScriptRefusal::Line(bad) => write!(f, "V1 {bad}"),
+            ScriptRefusal::NoTransaction => f.write_str(
+                "V1 no transaction of this name is in progress",
+            ),
+            ScriptRefusal::SecondBegin => f.write_str(
+                "V1 a transaction of this name is in progress",
+            ),
+            ScriptRefusal::Session(fault) => write!(f, "{} {fault}", fault.code()),
+            ScriptRefusal::NoSlot => f.write_str("L1 there is no such slot"),
+            ScriptRefusal::Unmet(why) => write!(f, "A1 {why}"),
+            ScriptRefusal::NoPasswords => f.write_str("A2 no passwords are asked"),
+            ScriptRefusal::Users(fault) => write!(f, "A2 {fault}"),
         }
     }
 }

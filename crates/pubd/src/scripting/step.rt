@@ -3,13 +3,13 @@
 
 use pqformat::Text;
 use replcmd::{is_slot_name, parse_position};
-use schedule::{BadLine, Dialect, Event, LineRefusal};
+use schedule::{BadLine, Event, LineDialect, LineRefusal};
 use std::alloc::Global;
 use std::time::Duration;
 
 /// One line.
 #[derive(Drop)]
-pub enum Step {
+pub enum ScriptStep {
     /// A session does this.
     Session(Event),
     /// `commit T`: the transaction of this name commits at the time of the clock.
@@ -56,13 +56,13 @@ pub enum Until {
 /// In the place of a position.
 const STREAM: &str = "stream";
 
-impl Step {
+impl ScriptStep {
     /// The step that a line spells, without its line end. `Bad` (V1) where it spells none, or `Memory`.
-    pub fn parse(alloc: Global, line: &str) -> Result<Step, LineRefusal> {
+    pub fn parse(alloc: Global, line: &str) -> Result<ScriptStep, LineRefusal> {
         let (word, rest) = line.split_once(' ').unwrap_or((line, ""));
         match word {
-            "end" if rest.is_empty() => Ok(Step::End),
-            "reload" if rest.is_empty() => Ok(Step::Reload),
+            "end" if rest.is_empty() => Ok(ScriptStep::End),
+            "reload" if rest.is_empty() => Ok(ScriptStep::Reload),
             "end" | "reload" => Err(LineRefusal::Bad(BadLine::OneFieldMore)),
             "await" => awaited(alloc, rest),
             "hold" => steer(alloc, rest, Steering::Hold),
@@ -75,10 +75,10 @@ impl Step {
     }
 }
 
-fn session(alloc: Global, line: &str) -> Result<Step, LineRefusal> {
-    let event = Event::read(alloc, line, Dialect::Script)?;
+fn session(alloc: Global, line: &str) -> Result<ScriptStep, LineRefusal> {
+    let event = Event::read(alloc, line, LineDialect::Script)?;
     if is_of_session(&event) {
-        Ok(Step::Session(event))
+        Ok(ScriptStep::Session(event))
     } else {
         drop(event);
         Err(LineRefusal::Bad(BadLine::NotHere))
@@ -93,16 +93,16 @@ fn is_of_session(event: &Event) -> bool {
 }
 
 /// A commit's line without its time is an abort's, but for its word.
-fn commit_now(alloc: Global, line: &str) -> Result<Step, LineRefusal> {
+fn commit_now(alloc: Global, line: &str) -> Result<ScriptStep, LineRefusal> {
     let name = line.strip_prefix("commit").unwrap_or("");
     let abort = format!(in alloc; "abort{name}")?;
-    match Event::read(alloc, abort.as_str(), Dialect::Script)? {
-        Event::Session(name, _) => Ok(Step::CommitNow(name)),
+    match Event::read(alloc, abort.as_str(), LineDialect::Script)? {
+        Event::Session(name, _) => Ok(ScriptStep::CommitNow(name)),
         _ => Err(LineRefusal::Bad(BadLine::Word)),
     }
 }
 
-fn awaited(alloc: Global, rest: &str) -> Result<Step, LineRefusal> {
+fn awaited(alloc: Global, rest: &str) -> Result<ScriptStep, LineRefusal> {
     let Some((slot, rest)) = rest.split_once(' ') else {
         return Err(LineRefusal::Bad(BadLine::MissingField));
     };
@@ -110,7 +110,7 @@ fn awaited(alloc: Global, rest: &str) -> Result<Step, LineRefusal> {
         Some((until, seconds)) => (until, Some(seconds)),
         None => (rest, None),
     };
-    Ok(Step::Await(Await {
+    Ok(ScriptStep::Await(Await {
         until: until_of(until)?,
         patience: patience_of(seconds)?,
         slot: slot_of(alloc, slot)?,
@@ -141,7 +141,7 @@ fn seconds_of(text: &str) -> Result<u32, LineRefusal> {
     }
 }
 
-fn cut(alloc: Global, rest: &str) -> Result<Step, LineRefusal> {
+fn cut(alloc: Global, rest: &str) -> Result<ScriptStep, LineRefusal> {
     let Some((slot, bytes)) = rest.split_once(' ') else {
         return steer(alloc, rest, Steering::Cut(0));
     };
@@ -151,8 +151,8 @@ fn cut(alloc: Global, rest: &str) -> Result<Step, LineRefusal> {
     }
 }
 
-fn steer(alloc: Global, slot: &str, steering: Steering) -> Result<Step, LineRefusal> {
-    Ok(Step::Steer(slot_of(alloc, slot)?, steering))
+fn steer(alloc: Global, slot: &str, steering: Steering) -> Result<ScriptStep, LineRefusal> {
+    Ok(ScriptStep::Steer(slot_of(alloc, slot)?, steering))
 }
 
 fn slot_of(alloc: Global, slot: &str) -> Result<Text, LineRefusal> {

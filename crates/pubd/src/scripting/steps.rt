@@ -6,9 +6,9 @@ use super::fault::ScriptFault;
 use super::file::Script;
 use super::leaving::leave_all;
 use super::outcome::Done;
-use super::step::{Await, Step};
+use super::step::{Await, ScriptStep};
 use crate::running::ending::ListenerHandles;
-use crate::standard_error::telling::Told;
+use crate::standard_error::error_log::ErrorLog;
 use hub::Hub;
 use schedule::Sessions;
 use shared_log::LogName;
@@ -36,7 +36,7 @@ pub fn run_steps<L: LogName + SlotName, R: Wait + Clock>(
     hub: &Hub<L>,
     listeners: &ListenerHandles,
     script: &Script,
-    told: &Told,
+    told: &ErrorLog,
 ) -> Result<ScriptEnd, ScriptFault> {
     let mut sessions = Sessions::new(hub.alloc());
     let ended = do_steps(rt, hub, listeners, script, &mut sessions, told);
@@ -50,7 +50,7 @@ fn do_steps<L: LogName + SlotName, R: Wait + Clock>(
     listeners: &ListenerHandles,
     script: &Script,
     sessions: &mut Sessions,
-    told: &Told,
+    told: &ErrorLog,
 ) -> Result<ScriptEnd, AllocError> {
     let name = script.path.as_str();
     for each in script.steps.as_slice() {
@@ -72,15 +72,15 @@ pub(crate) fn do_step<L: LogName + SlotName, R: Wait + Clock>(
     hub: &Hub<L>,
     listeners: &ListenerHandles,
     sessions: &mut Sessions,
-    step: &Step,
+    step: &ScriptStep,
 ) -> Result<Done, AllocError> {
     match step {
-        Step::Session(event) => do_event(rt, hub, sessions, event),
-        Step::CommitNow(name) => commit_now(rt, hub, sessions, name),
-        Step::Steer(slot, steering) => Ok(steer(rt, hub, slot.as_str(), *steering)),
-        Step::Await(line) => Ok(wait_out(rt, hub, listeners, line)),
-        Step::Reload => Ok(reload(rt, hub, listeners)),
-        Step::End => Ok(Done::End),
+        ScriptStep::Session(event) => do_event(rt, hub, sessions, event),
+        ScriptStep::CommitNow(name) => commit_now(rt, hub, sessions, name),
+        ScriptStep::Steer(slot, steering) => Ok(steer(rt, hub, slot.as_str(), *steering)),
+        ScriptStep::Await(line) => Ok(wait_out(rt, hub, listeners, line)),
+        ScriptStep::Reload => Ok(reload(rt, hub, listeners)),
+        ScriptStep::End => Ok(Done::End),
     }
 }
 

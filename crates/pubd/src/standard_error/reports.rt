@@ -1,9 +1,9 @@
 //! What the server tells beside its clients.
 
+use crate::standard_error::error_log::ErrorLog;
 use crate::standard_error::level::Level;
 use crate::standard_error::questions::Questions;
-use crate::standard_error::talk::{Talk, Turn};
-use crate::standard_error::telling::Told;
+use crate::standard_error::told_clients::{ToldClients, Turn};
 use hub::{AcceptError, ConnectionEnd, RefusedCommand, ServerObserver};
 use std::alloc::Global;
 use std::fmt::Display;
@@ -28,19 +28,19 @@ fn is_told(level: Level, end: ConnectionEnd) -> bool {
 #[derive(Drop)]
 pub struct Reports<'e, R: Wait + Clock> {
     rt: &'e R,
-    told: &'e Told,
+    told: &'e ErrorLog,
     level: Level,
-    talk: Mutex<Talk>,
+    talk: Mutex<ToldClients>,
     questions: Questions,
 }
 
 impl<'e, R: Wait + Clock> Reports<'e, R> {
-    pub fn new(rt: &'e R, alloc: Global, told: &'e Told, level: Level) -> Self {
+    pub fn new(rt: &'e R, alloc: Global, told: &'e ErrorLog, level: Level) -> Self {
         Reports {
             rt,
             told,
             level,
-            talk: Mutex::new(Talk::new(alloc)),
+            talk: Mutex::new(ToldClients::new(alloc)),
             questions: Questions::new(),
         }
     }

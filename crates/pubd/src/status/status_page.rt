@@ -121,17 +121,30 @@ impl Page {
         alloc: Global,
         socket: net::TcpStream,
     ) -> io::Result<()> {
-        socket.set_nonblocking(true)?;
-        let mut asker = Asker::new(rt, alloc, TcpStream::from_std(socket), rt.monotonic()?)?;
+        let mut asker = asker_at(rt, alloc, socket)?;
+        let registered = self.register(&mut asker);
+        self.admit(asker, registered)
+    }
+
+    /// Has its socket wake the page.
+    fn register(&self, asker: &mut Asker) -> io::Result<()> {
         let both = Interest::READABLE | Interest::WRITABLE;
         self.poll
             .registry()
-            .register(&mut asker.socket, ASKER, both)?;
+            .register(&mut asker.socket, ASKER, both)
+    }
+
+    /// Keeps it, where it was registered.
+    fn admit(&mut self, asker: Asker, registered: io::Result<()>) -> io::Result<()> {
+        if let Err(fault) = registered {
+            // Let go before the way out, which keeps the proof short.
+            drop(asker);
+            return Err(fault);
+        }
         if MOST_ASKERS <= self.askers.len() {
             self.askers.remove(0);
         }
-        self.askers.push(asker)?;
-        Ok(())
+        Ok(self.askers.push(asker)?)
     }
 
     /// Goes on with each who asks. Those that are over go.
@@ -153,6 +166,17 @@ impl Page {
         }
         Ok(())
     }
+}
+
+/// One who asks from now on.
+fn asker_at<R: Clock + RandomSource>(
+    rt: &R,
+    alloc: Global,
+    socket: net::TcpStream,
+) -> io::Result<Asker> {
+    socket.set_nonblocking(true)?;
+    let now = rt.monotonic()?;
+    Asker::new(rt, alloc, TcpStream::from_std(socket), now)
 }
 
 /// After how long a listener is looked at again that gave this fault: None where nobody waits there.

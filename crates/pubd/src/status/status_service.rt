@@ -15,28 +15,28 @@ use std::time::Clock;
 
 /// What a request asks for.
 #[derive(Clone, Copy)]
-enum Asked {
+enum PageRequest {
     Page,
     OtherPage,
     OtherMethod,
 }
 
-impl Asked {
+impl PageRequest {
     fn of(method: &Method, path: &str) -> Self {
         if *method != Method::GET && *method != Method::HEAD {
-            return Asked::OtherMethod;
+            return PageRequest::OtherMethod;
         }
         match path {
-            "/" | "/metrics" => Asked::Page,
-            _ => Asked::OtherPage,
+            "/" | "/metrics" => PageRequest::Page,
+            _ => PageRequest::OtherPage,
         }
     }
 
     fn status(self) -> StatusCode {
         match self {
-            Asked::Page => StatusCode::OK,
-            Asked::OtherPage => StatusCode::NOT_FOUND,
-            Asked::OtherMethod => StatusCode::METHOD_NOT_ALLOWED,
+            PageRequest::Page => StatusCode::OK,
+            PageRequest::OtherPage => StatusCode::NOT_FOUND,
+            PageRequest::OtherMethod => StatusCode::METHOD_NOT_ALLOWED,
         }
     }
 }
@@ -64,12 +64,12 @@ impl<'a, L: LogName + SlotName, R: Wait + Clock> Service for StatusService<'a, L
         request: &Request<Bytes>,
         response: &mut Response,
     ) -> Result<(), AllocError> {
-        let asked = Asked::of(request.method(), path_of(request.uri()));
+        let asked = PageRequest::of(request.method(), path_of(request.uri()));
         response.status = asked.status();
         let text = HeaderValue::from_static("text/plain; version=0.0.4");
         response.add_header(header::CONTENT_TYPE, text)?;
         response.add_header(header::CONNECTION, HeaderValue::from_static("close"))?;
-        if let Asked::OtherMethod = asked {
+        if let PageRequest::OtherMethod = asked {
             response.add_header(header::ALLOW, HeaderValue::from_static("GET, HEAD"))?;
         }
         response.body.push(self.page(asked)?)
@@ -77,7 +77,7 @@ impl<'a, L: LogName + SlotName, R: Wait + Clock> Service for StatusService<'a, L
 }
 
 impl<'a, L: LogName + SlotName, R: Wait + Clock> StatusService<'a, L, R> {
-    fn page(&self, asked: Asked) -> Result<Bytes, AllocError> {
+    fn page(&self, asked: PageRequest) -> Result<Bytes, AllocError> {
         let mut page = Vec::new(self.hub.alloc());
         if self.write(asked, &mut page).is_err() {
             return Err(AllocError);
@@ -85,10 +85,10 @@ impl<'a, L: LogName + SlotName, R: Wait + Clock> StatusService<'a, L, R> {
         Ok(Bytes::from_vec(page)?)
     }
 
-    fn write(&self, asked: Asked, page: &mut Vec<u8>) -> io::Result<()> {
+    fn write(&self, asked: PageRequest, page: &mut Vec<u8>) -> io::Result<()> {
         match asked {
-            Asked::Page => write_status(&self.hub.status(self.rt)?, page),
-            Asked::OtherPage | Asked::OtherMethod => {
+            PageRequest::Page => write_status(&self.hub.status(self.rt)?, page),
+            PageRequest::OtherPage | PageRequest::OtherMethod => {
                 writeln!(page, "what runs is told at /metrics")
             }
         }

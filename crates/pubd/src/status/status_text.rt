@@ -120,11 +120,17 @@ const SLOT_FAMILIES: [(&str, &str, &str); 13] = [
 fn write_slots<W: Write>(status: &HubStatus, to: &mut W) -> io::Result<()> {
     for (name, kind, help) in &SLOT_FAMILIES {
         family(to, name, kind, help)?;
-        for slot in &status.slots {
-            if let Some(value) = value_of(name, slot, status.log_end) {
-                let label = label_of(slot);
-                writeln!(to, "{name}{{slot=\"{label}\"}} {value}")?;
-            }
+        write_values(status, name, to)?;
+    }
+    Ok(())
+}
+
+/// The values of a family: a line for each slot that has one.
+fn write_values<W: Write>(status: &HubStatus, name: &str, to: &mut W) -> io::Result<()> {
+    for slot in &status.slots {
+        if let Some(value) = value_of(name, slot, status.log_end) {
+            let label = label_of(slot);
+            writeln!(to, "{name}{{slot=\"{label}\"}} {value}")?;
         }
     }
     Ok(())
@@ -139,17 +145,17 @@ fn label_of(slot: &SlotStatus) -> &str {
 
 /// What a line tells of a slot.
 #[derive(Clone, Copy)]
-enum Value {
+enum SlotMetric {
     Number(u64),
     /// Microseconds, which are told as seconds.
     Time(u64),
 }
 
-impl fmt::Display for Value {
+impl fmt::Display for SlotMetric {
     fn fmt<W: fmt::Write>(&self, f: &mut fmt::Formatter<W>) -> fmt::Result {
         match *self {
-            Value::Number(number) => write!(f, "{number}"),
-            Value::Time(micros) => { write!(f, "{}.{:06}", micros / MICROS, micros % MICROS) }
+            SlotMetric::Number(number) => write!(f, "{number}"),
+            SlotMetric::Time(micros) => { write!(f, "{}.{:06}", micros / MICROS, micros % MICROS) }
         }
     }
 }
@@ -158,11 +164,11 @@ impl fmt::Display for Value {
 const MICROS: u64 = 1_000_000;
 
 /// The value of a family for a slot, if it has one.
-fn value_of(family: &str, slot: &SlotStatus, log_end: u64) -> Option<Value> {
+fn value_of(family: &str, slot: &SlotStatus, log_end: u64) -> Option<SlotMetric> {
     match family {
-        "pubd_slot_behind_seconds" => Some(Value::Time(slot.behind_for)),
-        "pubd_slot_flush_lag_seconds" => slot.flush_lag.map(Value::Time),
-        other => number_of(other, slot, log_end).map(Value::Number),
+        "pubd_slot_behind_seconds" => Some(SlotMetric::Time(slot.behind_for)),
+        "pubd_slot_flush_lag_seconds" => slot.flush_lag.map(SlotMetric::Time),
+        other => number_of(other, slot, log_end).map(SlotMetric::Number),
     }
 }
 

@@ -2,9 +2,9 @@
 
 ghost use Rattle.std.specs.Prelude.{◌≡◌, [], option_map};
 ghost use Rattle.toml.specs.View.{view, items_view};
-ghost use Rattle.publication_config.specs.Config.{Configures, Reads, ReadsPublications, configured_by, fault_of, publications_behind, publications_in, publications_of, set_over};
+ghost use Rattle.publication_config.specs.Config.{Configures, Reads, ReadsPublications, configured_by, fault_of, publications_after, publications_in, publications_of, set_over};
 
-use crate::document::config_fault::{Misfit, Refusal, Unread};
+use crate::document::config_fault::{ConfigRefusal, PublicationMisfit, UnreadPublication};
 use crate::document::config_publication::publication_in;
 use crate::fault::PubFault;
 use crate::publication::Publication;
@@ -46,8 +46,8 @@ pub fn publications_in(
 {
     match publications_of(alloc, catalog, document.get("publication")) {
         Ok(publications) => Ok(publications),
-        Err(Unread::Refused(refusal)) => Err(fault_of(refusal)),
-        Err(Unread::Memory) => Err(PubFault::Memory),
+        Err(UnreadPublication::Refused(refusal)) => Err(fault_of(refusal)),
+        Err(UnreadPublication::Memory) => Err(PubFault::Memory),
     }
 }
 
@@ -56,7 +56,7 @@ fn publications_of(
     alloc: Global,
     catalog: &Catalog,
     member: Option<&Value>,
-) -> Result<Items<Publication>, Unread>
+) -> Result<Items<Publication>, UnreadPublication>
     ensures { Reads result
         (publications_of catalog.now (option_map (λ v. view v.now) member.entry)) }
 {
@@ -64,17 +64,17 @@ fn publications_of(
         return Ok(Items::new(Vec::new(alloc)));
     };
     let Some(values) = value.as_array() else {
-        return Err(Unread::Refused(Refusal::Misfit(Misfit::NoList)));
+        return Err(UnreadPublication::Refused(ConfigRefusal::Misfit(PublicationMisfit::NoList)));
     };
-    publications_behind(alloc, catalog, values.as_slice())
+    publications_after(alloc, catalog, values.as_slice())
 }
 
-fn publications_behind(
+fn publications_after(
     alloc: Global,
     catalog: &Catalog,
     values: &[Value],
-) -> Result<Items<Publication>, Unread>
-    ensures { Reads result (publications_behind catalog.now [] (items_view values.now)) }
+) -> Result<Items<Publication>, UnreadPublication>
+    ensures { Reads result (publications_after catalog.now [] (items_view values.now)) }
 {
     let mut publications = Vec::new(alloc);
     for value in values {
@@ -86,14 +86,14 @@ fn publications_behind(
 }
 
 /// The fault of a refusal.
-fn fault_of(refusal: Refusal) -> PubFault
+fn fault_of(refusal: ConfigRefusal) -> PubFault
     ensures { result ≡ fault_of refusal }
 {
     match refusal {
-        Refusal::Misfit(misfit) => PubFault::BadToml(misfit),
-        Refusal::BadFilter(place, fault) => PubFault::BadFilter(place, fault),
-        Refusal::NoIdentity(place) => PubFault::NoIdentity(place),
-        Refusal::ListWithoutIdentity(place) => PubFault::ListWithoutIdentity(place),
-        Refusal::FilterOutsideIdentity(place) => PubFault::FilterOutsideIdentity(place),
+        ConfigRefusal::Misfit(misfit) => PubFault::BadToml(misfit),
+        ConfigRefusal::BadFilter(place, fault) => PubFault::BadFilter(place, fault),
+        ConfigRefusal::NoIdentity(place) => PubFault::NoIdentity(place),
+        ConfigRefusal::ListWithoutIdentity(place) => PubFault::ListWithoutIdentity(place),
+        ConfigRefusal::FilterOutsideIdentity(place) => PubFault::FilterOutsideIdentity(place),
     }
 }

@@ -1,7 +1,7 @@
 //! Why a text names no publications.
 
 ghost use Rattle.std.specs.Prelude.{◌≡◌};
-ghost use Rattle.publication_config.specs.declared.document.config_fault.Unread.TheVariants.{Memory};
+ghost use Rattle.publication_config.specs.declared.document.config_fault.UnreadPublication.TheVariants.{Memory};
 
 use rowfilter::FilterFault;
 use std::alloc::{AllocError, AllocFailed};
@@ -10,12 +10,12 @@ use std::fmt;
 /// A table of a publication of a configuration: the numbers of both, from 1. The tables of a publication of schemas, or of all tables, are
 /// counted in the order of the catalogue.
 #[derive(Clone, Copy, Debug, PartialEq, Eq)]
-pub struct Place {
+pub struct TablePlace {
     pub publication: usize,
     pub table: usize,
 }
 
-impl fmt::Display for Place {
+impl fmt::Display for TablePlace {
     fn fmt<W: fmt::Write>(&self, f: &mut fmt::Formatter<W>) -> fmt::Result {
         write!(f, "publication {}, table {}", self.publication, self.table)
     }
@@ -23,7 +23,7 @@ impl fmt::Display for Place {
 
 /// A member of a publication of a configuration.
 #[derive(Clone, Copy, Debug, PartialEq, Eq)]
-pub enum Member {
+pub enum PublicationMember {
     Name,
     Publish,
     Tables,
@@ -35,16 +35,17 @@ pub enum Member {
     Other,
 }
 
-impl fmt::Display for Member {
+impl fmt::Display for PublicationMember {
     fn fmt<W: fmt::Write>(&self, f: &mut fmt::Formatter<W>) -> fmt::Result {
         f.write_str(match self {
-            Member::Name => "name: a name that no other publication has",
-            Member::Publish => "publish: a list of insert, update, delete and truncate",
-            Member::Tables => "tables: a list of one or more tables",
-            Member::Schemas => "schemas: a list of one or more schemas of tables, each once",
-            Member::AllTables => "all_tables: true",
-            Member::OneOfThree => "exactly one of tables, schemas and all_tables",
-            Member::Other =>
+            PublicationMember::Name => "name: a name that no other publication has",
+            PublicationMember::Publish => "publish: a list of insert, update, delete and truncate",
+            PublicationMember::Tables => "tables: a list of one or more tables",
+            PublicationMember::Schemas =>
+                "schemas: a list of one or more schemas of tables, each once",
+            PublicationMember::AllTables => "all_tables: true",
+            PublicationMember::OneOfThree => "exactly one of tables, schemas and all_tables",
+            PublicationMember::Other =>
                 "name, publish, one of tables, schemas and all_tables, and no other member",
         })
     }
@@ -75,54 +76,57 @@ impl fmt::Display for TableMember {
 
 /// What is wrong with the publications of a configuration.
 #[derive(Clone, Copy, Debug, PartialEq, Eq)]
-pub enum Misfit {
+pub enum PublicationMisfit {
     /// `publication` is something else than a list.
     NoList,
     /// This member of this publication; the first publication is number 1.
-    Publication(usize, Member),
+    Publication(usize, PublicationMember),
     /// This member of this table of a publication.
-    Table(Place, TableMember),
+    Table(TablePlace, TableMember),
 }
 
-impl fmt::Display for Misfit {
+impl fmt::Display for PublicationMisfit {
     fn fmt<W: fmt::Write>(&self, f: &mut fmt::Formatter<W>) -> fmt::Result {
         match self {
-            Misfit::NoList => f.write_str("publication is no list of publications"),
-            Misfit::Publication(number, member) => write!(f, "publication {number} wants {member}"),
-            Misfit::Table(place, member) => write!(f, "{place} wants {member}"),
+            PublicationMisfit::NoList => f.write_str("publication is no list of publications"),
+            PublicationMisfit::Publication(number, member) => write!(
+                f,
+                "publication {number} wants {member}"
+            ),
+            PublicationMisfit::Table(place, member) => write!(f, "{place} wants {member}"),
         }
     }
 }
 
 /// Why a document names no publications.
 #[derive(Clone, Copy)]
-pub(crate) enum Refusal {
-    Misfit(Misfit),
-    BadFilter(Place, FilterFault),
-    NoIdentity(Place),
-    ListWithoutIdentity(Place),
-    FilterOutsideIdentity(Place),
+pub(crate) enum ConfigRefusal {
+    Misfit(PublicationMisfit),
+    BadFilter(TablePlace, FilterFault),
+    NoIdentity(TablePlace),
+    ListWithoutIdentity(TablePlace),
+    FilterOutsideIdentity(TablePlace),
 }
 
 /// Why a part of a configuration was not read.
 #[derive(Clone, Copy)]
-pub(crate) enum Unread {
-    Refused(Refusal),
+pub(crate) enum UnreadPublication {
+    Refused(ConfigRefusal),
     Memory,
 }
 
-impl From<AllocError> for Unread {
+impl From<AllocError> for UnreadPublication {
     ghost from_gives = { λ _ e. e ≡ Memory };
 
-    fn from(_e: AllocError) -> Unread {
-        Unread::Memory
+    fn from(_e: AllocError) -> UnreadPublication {
+        UnreadPublication::Memory
     }
 }
 
-impl<T: Drop> From<AllocFailed<T>> for Unread {
+impl<T: Drop> From<AllocFailed<T>> for UnreadPublication {
     ghost from_gives = { λ _ e. e ≡ Memory };
 
-    fn from(_e: AllocFailed<T>) -> Unread {
-        Unread::Memory
+    fn from(_e: AllocFailed<T>) -> UnreadPublication {
+        UnreadPublication::Memory
     }
 }

@@ -5,11 +5,13 @@ ghost use Rattle.std.specs.List.{list_all, list_any};
 ghost use Rattle.std.specs.Str.{bytes_eq};
 ghost use Rattle.toml.specs.Data.{get};
 ghost use Rattle.toml.specs.View.{view, items_view};
-ghost use Rattle.publication_config.specs.Config.{Reads, ReadsReach, all_in, has_others, has_whole, is_schema, judged_table, list_in, name_of, no_operations, operation_in, operation_of, operations_behind, operations_in, publication_in, published_behind, published_by, reach_in, schemas_in, seen_reach, tables_in, whole_behind, wrong};
+ghost use Rattle.publication_config.specs.Config.{Reads, ReadsReach, all_in, has_others, has_whole, is_schema, judged_table, list_in, name_of, no_operations, operation_in, operation_of, operations_after, operations_in, publication_in, published_behind, published_by, reach_in, schemas_in, seen_reach, tables_in, whole_after, wrong};
 ghost use Rattle.publication_config.specs.Published.{published_whole, with_operation};
-ghost use Rattle.publication_config.specs.declared.document.config_fault.Unread.TheVariants.{Refused};
+ghost use Rattle.publication_config.specs.declared.document.config_fault.UnreadPublication.TheVariants.{Refused};
 
-use crate::document::config_fault::{Member, Misfit, Place, Refusal, Unread};
+use crate::document::config_fault::{
+    ConfigRefusal, PublicationMember, PublicationMisfit, TablePlace, UnreadPublication,
+};
 use crate::document::config_table::{count_if, published_in};
 use crate::document::judging::judged;
 use crate::operations::{Operation, Operations};
@@ -42,14 +44,14 @@ pub(crate) fn publication_in(
     catalog: &Catalog,
     before: &[Publication],
     value: &Value,
-) -> Result<Publication, Unread>
+) -> Result<Publication, UnreadPublication>
     ensures { Reads result (publication_in number catalog.now before.now (view value.now)) }
 {
     let Some(name) = name_of(before, value) else {
-        return Err(wrong(number, Member::Name));
+        return Err(wrong(number, PublicationMember::Name));
     };
     let Some(operations) = operations_in(value.get("publish")) else {
-        return Err(wrong(number, Member::Publish));
+        return Err(wrong(number, PublicationMember::Publish));
     };
     let tables = tables_in(alloc, number, operations, catalog, value)?;
     Ok(Publication {
@@ -67,20 +69,20 @@ fn tables_in(
     operations: Operations,
     catalog: &Catalog,
     value: &Value,
-) -> Result<Items<PublishedTable>, Unread>
+) -> Result<Items<PublishedTable>, UnreadPublication>
     ensures { Reads result (tables_in number operations catalog.now (view value.now)) }
 {
     let reach = reach_in(alloc, number, catalog.tables(), value)?;
     if has_others(value) {
-        return Err(wrong(number, Member::Other));
+        return Err(wrong(number, PublicationMember::Other));
     }
     published_by(alloc, number, operations, catalog, &reach)
 }
 
-fn wrong(number: usize, which: Member) -> Unread
+fn wrong(number: usize, which: PublicationMember) -> UnreadPublication
     ensures { result ≡ Refused (wrong number which) }
 {
-    Unread::Refused(Refusal::Misfit(Misfit::Publication(number, which)))
+    UnreadPublication::Refused(ConfigRefusal::Misfit(PublicationMisfit::Publication(number, which)))
 }
 
 /// The name of the value, if it is one that no publication has yet.
@@ -113,7 +115,7 @@ fn operations_in(member: Option<&Value>) -> Option<Operations>
 }
 
 fn operations_of(values: &[Value]) -> Option<Operations>
-    ensures { result ≡ operations_behind no_operations (items_view values.now) }
+    ensures { result ≡ operations_after no_operations (items_view values.now) }
 {
     let mut operations = Operations::NONE;
     for value in values {
@@ -159,7 +161,7 @@ fn reach_in<'v>(
     number: usize,
     tables: &[Table],
     value: &'v Value,
-) -> Result<Reach<'v>, Unread>
+) -> Result<Reach<'v>, UnreadPublication>
     ensures { ReadsReach result (reach_in number tables.now (view value.now)) }
 {
     match (
@@ -167,12 +169,12 @@ fn reach_in<'v>(
         value.get("schemas"),
         value.get("all_tables"),
     ) {
-        (Some(list), None, None) => list_in(list).ok_or(wrong(number, Member::Tables)),
+        (Some(list), None, None) => list_in(list).ok_or(wrong(number, PublicationMember::Tables)),
         (None, Some(names), None) => {
-            schemas_in(alloc, tables, names)?.ok_or(wrong(number, Member::Schemas))
+            schemas_in(alloc, tables, names)?.ok_or(wrong(number, PublicationMember::Schemas))
         }
-        (None, None, Some(flag)) => all_in(flag).ok_or(wrong(number, Member::AllTables)),
-        _ => Err(wrong(number, Member::OneOfThree)),
+        (None, None, Some(flag)) => all_in(flag).ok_or(wrong(number, PublicationMember::AllTables)),
+        _ => Err(wrong(number, PublicationMember::OneOfThree)),
     }
 }
 
@@ -231,13 +233,13 @@ fn published_by(
     operations: Operations,
     catalog: &Catalog,
     reach: &Reach<'_>,
-) -> Result<Items<PublishedTable>, Unread>
+) -> Result<Items<PublishedTable>, UnreadPublication>
     ensures { Reads result (published_by number operations catalog.now (seen_reach reach.now)) }
 {
     match reach {
         Reach::Listed(values) => published_behind(alloc, number, operations, catalog, values),
         Reach::OfSchemas(_) | Reach::All => {
-            whole_behind(alloc, number, operations, catalog.tables(), reach)
+            whole_after(alloc, number, operations, catalog.tables(), reach)
         }
     }
 }
@@ -248,13 +250,13 @@ fn published_behind(
     operations: Operations,
     catalog: &Catalog,
     values: &[Value],
-) -> Result<Items<PublishedTable>, Unread>
+) -> Result<Items<PublishedTable>, UnreadPublication>
     ensures { Reads result
         (published_behind number operations catalog.now [] (items_view values.now)) }
 {
     let mut published = Vec::new(alloc);
     for value in values {
-        let place = Place {
+        let place = TablePlace {
             publication: number,
             table: published.len() + 1,
         };
@@ -272,20 +274,20 @@ fn published_behind(
 }
 
 /// Whole tables, in their order.
-fn whole_behind(
+fn whole_after(
     alloc: Global,
     number: usize,
     operations: Operations,
     tables: &[Table],
     reach: &Reach<'_>,
-) -> Result<Items<PublishedTable>, Unread>
+) -> Result<Items<PublishedTable>, UnreadPublication>
     ensures { Reads result
-        (whole_behind number operations [] (filter (has_whole (seen_reach reach.now)) tables.now)) }
+        (whole_after number operations [] (filter (has_whole (seen_reach reach.now)) tables.now)) }
 {
     let mut published = Vec::new(alloc);
     for table in tables {
         if has_whole(reach, table) {
-            let place = Place {
+            let place = TablePlace {
                 publication: number,
                 table: published.len() + 1,
             };
@@ -298,10 +300,10 @@ fn whole_behind(
 /// The table as a whole, if what is published of it goes with its identity.
 fn whole_in(
     alloc: Global,
-    place: Place,
+    place: TablePlace,
     operations: Operations,
     table: &Table,
-) -> Result<PublishedTable, Unread>
+) -> Result<PublishedTable, UnreadPublication>
     ensures { Reads result
         (judged_table place operations table.now false (published_whole table.now)) }
 {

@@ -7,9 +7,11 @@ ghost use Rattle.toml.specs.Data.{as_str, get};
 ghost use Rattle.toml.specs.View.{view};
 ghost use Rattle.catalog.specs.Config.{and_then, is_column};
 ghost use Rattle.publication_config.specs.Config.{Reads, columns_in, count_if, filter_in, has_more, has_published, listed_if, listed_in, published_in, table_in, text_in, wrong_member};
-ghost use Rattle.publication_config.specs.declared.document.config_fault.Unread.TheVariants.{Refused};
+ghost use Rattle.publication_config.specs.declared.document.config_fault.UnreadPublication.TheVariants.{Refused};
 
-use crate::document::config_fault::{Misfit, Place, Refusal, TableMember, Unread};
+use crate::document::config_fault::{
+    ConfigRefusal, PublicationMisfit, TableMember, TablePlace, UnreadPublication,
+};
 use crate::document::judging::judged;
 use crate::operations::Operations;
 use crate::published_table::PublishedTable;
@@ -24,12 +26,12 @@ use toml::Value;
 #[tactic(auto, unfolding(crate::specs::Config::published_in))]
 pub(crate) fn published_in(
     alloc: Global,
-    place: Place,
+    place: TablePlace,
     operations: Operations,
     catalog: &Catalog,
     before: &[PublishedTable],
     value: &Value,
-) -> Result<PublishedTable, Unread>
+) -> Result<PublishedTable, UnreadPublication>
     ensures { Reads result (published_in place operations catalog.now before.now (view value.now)) }
 {
     let Some(table) = table_in(catalog, before, value) else {
@@ -53,10 +55,10 @@ pub(crate) fn published_in(
 #[tactic(auto, unfolding(crate::specs::Config::columns_in))]
 fn columns_in(
     alloc: Global,
-    place: Place,
+    place: TablePlace,
     table: &Table,
     value: &Value,
-) -> Result<Items<bool>, Unread>
+) -> Result<Items<bool>, UnreadPublication>
     ensures { Reads result (columns_in place table.now (view value.now)) }
 {
     let Some(listed) = listed_in(alloc, table, value.get("columns"))? else {
@@ -68,10 +70,10 @@ fn columns_in(
     Ok(listed)
 }
 
-fn wrong_member(place: Place, which: TableMember) -> Unread
+fn wrong_member(place: TablePlace, which: TableMember) -> UnreadPublication
     ensures { result ≡ Refused (wrong_member place which) }
 {
-    Unread::Refused(Refusal::Misfit(Misfit::Table(place, which)))
+    UnreadPublication::Refused(ConfigRefusal::Misfit(PublicationMisfit::Table(place, which)))
 }
 
 #[tactic(auto, unfolding(crate::specs::Config::table_in))]
@@ -199,10 +201,10 @@ pub(crate) fn count_if(there: bool) -> usize
 
 fn filter_in(
     alloc: Global,
-    place: Place,
+    place: TablePlace,
     table: &Table,
     text: Option<&str>,
-) -> Result<Option<Filter>, Unread>
+) -> Result<Option<Filter>, UnreadPublication>
     ensures { Reads result (filter_in place table.now (option_copied text.entry)) }
 {
     let Some(text) = text else {
@@ -210,7 +212,7 @@ fn filter_in(
     };
     match parse(alloc, text, table) {
         Ok(filter) => Ok(Some(filter)),
-        Err(FilterFault::Memory) => Err(Unread::Memory),
-        Err(fault) => Err(Unread::Refused(Refusal::BadFilter(place, fault))),
+        Err(FilterFault::Memory) => Err(UnreadPublication::Memory),
+        Err(fault) => Err(UnreadPublication::Refused(ConfigRefusal::BadFilter(place, fault))),
     }
 }

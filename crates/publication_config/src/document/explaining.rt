@@ -1,6 +1,6 @@
 //! Refusals of a configuration, for whoever wrote it.
 
-use crate::document::config_fault::{Misfit, Place};
+use crate::document::config_fault::{PublicationMisfit, TablePlace};
 use crate::fault::PubFault;
 use catalog::Catalog;
 use rowfilter::{FilterFault, MOST_BYTES, fault_at};
@@ -40,7 +40,7 @@ fn push_place(
     lines: &mut String,
     document: &Value,
     catalog: &Catalog,
-    place: Place,
+    place: TablePlace,
     fault: PubFault,
 ) -> Result<(), AllocError> {
     let Some(publication) = numbered(document.get("publication"), place.publication) else {
@@ -91,14 +91,14 @@ fn beginning(text: &str) -> &str {
 }
 
 /// Where a fault stands; a fault of a publication alone at its table 0, which none is.
-fn place_of(fault: PubFault) -> Option<Place> {
+fn place_of(fault: PubFault) -> Option<TablePlace> {
     match fault {
         PubFault::BadFilter(place, _)
         | PubFault::NoIdentity(place)
         | PubFault::ListWithoutIdentity(place)
         | PubFault::FilterOutsideIdentity(place)
-        | PubFault::BadToml(Misfit::Table(place, _)) => Some(place),
-        PubFault::BadToml(Misfit::Publication(publication, _)) => Some(Place {
+        | PubFault::BadToml(PublicationMisfit::Table(place, _)) => Some(place),
+        PubFault::BadToml(PublicationMisfit::Publication(publication, _)) => Some(TablePlace {
             publication,
             table: 0,
         }),
@@ -127,12 +127,12 @@ fn whole_table<'c>(publication: &Value, catalog: &'c Catalog, number: usize) -> 
     let before = number.checked_sub(1)?;
     match publication.get("schemas") {
         None => catalog.tables().get(before),
-        Some(schemas) => table_behind(schemas, catalog.tables(), before),
+        Some(schemas) => table_after(schemas, catalog.tables(), before),
     }
 }
 
 /// The table of these schemas before which there are so many others of them.
-fn table_behind<'c>(schemas: &Value, tables: &'c [Table], before: usize) -> Option<&'c Table> {
+fn table_after<'c>(schemas: &Value, tables: &'c [Table], before: usize) -> Option<&'c Table> {
     let mut left = before;
     for table in tables {
         if is_among(schemas, table.schema.as_str()) {

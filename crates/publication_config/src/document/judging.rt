@@ -3,7 +3,7 @@
 ghost use Rattle.std.specs.Prelude.{◌≡◌, option_copied};
 ghost use Rattle.publication_config.specs.Config.{Reads, filter_leaves_identity, identity_fault, judged_table, lacks_identity, leaves_identity};
 
-use crate::document::config_fault::{Place, Refusal, Unread};
+use crate::document::config_fault::{ConfigRefusal, TablePlace, UnreadPublication};
 use crate::identity::is_in_identity;
 use crate::operations::Operations;
 use crate::published_table::{PublishedTable, is_listed};
@@ -13,43 +13,43 @@ use tables::{Identity, Table};
 /// The table, if what is published of it goes with its identity. The flag says that it has a column list.
 #[tactic(auto, unfolding(crate::specs::Config::judged_table))]
 pub(crate) fn judged(
-    place: Place,
+    place: TablePlace,
     operations: Operations,
     table: &Table,
     has_list: bool,
     published: PublishedTable,
-) -> Result<PublishedTable, Unread>
+) -> Result<PublishedTable, UnreadPublication>
     ensures { Reads result (judged_table place operations table.now has_list published) }
 {
     match identity_fault(place, operations, table, has_list, &published) {
-        Some(refusal) => Err(Unread::Refused(refusal)),
+        Some(refusal) => Err(UnreadPublication::Refused(refusal)),
         None => Ok(published),
     }
 }
 
 fn identity_fault(
-    place: Place,
+    place: TablePlace,
     operations: Operations,
     table: &Table,
     has_list: bool,
     published: &PublishedTable,
-) -> Option<Refusal>
+) -> Option<ConfigRefusal>
     ensures { result ≡ identity_fault place operations table.now has_list published.now }
 {
     if !(operations.update || operations.delete) {
         return None;
     }
     if table.identity == Identity::Nothing {
-        return Some(Refusal::NoIdentity(place));
+        return Some(ConfigRefusal::NoIdentity(place));
     }
     if has_list
         && (table.identity == Identity::Full
             || lacks_identity(table, published.listed.as_slice()))
     {
-        return Some(Refusal::ListWithoutIdentity(place));
+        return Some(ConfigRefusal::ListWithoutIdentity(place));
     }
     if filter_leaves_identity(table, published.filter.as_ref()) {
-        return Some(Refusal::FilterOutsideIdentity(place));
+        return Some(ConfigRefusal::FilterOutsideIdentity(place));
     }
     None
 }

@@ -13,19 +13,19 @@ ghost use Rattle.reorder.specs.Orders.{places_in};
 ghost use Rattle.reorder.specs.Spots.{IsSpot, spots_from};
 ghost use Rattle.reorder.specs.Strands.{AreMerged, all_in, by_xid, changes_in, is_in, kept_spots, spots_of, strand_at};
 
+use crate::places::change_order::ChangeOrder;
 use crate::places::entry::position_of;
-use crate::places::order::Order;
 use crate::places::place::Spot;
 use crate::places::pool::Pool;
-use crate::strand::Strand;
 use crate::strands::Strands;
+use crate::subxact_ancestors::SubxactAncestors;
 use chgarena::Entries;
 use std::alloc::{AllocError, Global};
 use std::collections::HashMap;
 
 impl Strands {
     /// The order of the changes that a transaction keeps.
-    pub(crate) fn order(&self, top: u32) -> Result<Order, AllocError>
+    pub(crate) fn order(&self, top: u32) -> Result<ChangeOrder, AllocError>
         ensures merged { IfOk result
             (λ o. AreMerged (by_xid self.now) top (map (entry_at self.now.pool) (places_in o))) }
         ensures there { IfOk result (λ o. All (IsPlace self.now.pool) (places_in o)) }
@@ -34,16 +34,16 @@ impl Strands {
             (λ at. is_in at.xid (all_in (lookup (λ k. top == k) self.now.members)) ≡ true)
             (places_in o)) }
         ensures lone { (xid : ℕ) → lookup (λ k. top == k) self.now.members ≡ Some (xid ∷ []) →
-            (count : ℕ) × (result ≡ Ok (Order.Whole xid count)) }
-        ensures only { (xid count : ℕ) → result ≡ Ok (Order.Whole xid count) →
+            (count : ℕ) × (result ≡ Ok (ChangeOrder.Whole xid count)) }
+        ensures only { (xid count : ℕ) → result ≡ Ok (ChangeOrder.Whole xid count) →
             lookup (λ k. top == k) self.now.members ≡ Some (xid ∷ []) }
     {
         match self.lone_member(top) {
-            Some(xid) => Ok(Order::Whole {
+            Some(xid) => Ok(ChangeOrder::Whole {
                 xid,
                 count: self.count(xid),
             }),
-            None => Ok(Order::Listed(self.spots(top)?)),
+            None => Ok(ChangeOrder::Listed(self.spots(top)?)),
         }
     }
 
@@ -112,7 +112,7 @@ impl Strands {
 /// Where the changes lie that these xids keep, xid after xid.
 pub(crate) fn joined_spots(
     alloc: Global,
-    strands: &HashMap<u32, Strand>,
+    strands: &HashMap<u32, SubxactAncestors>,
     pool: &Pool,
     xids: &[u32],
 ) -> Result<Vec<Spot>, AllocError>

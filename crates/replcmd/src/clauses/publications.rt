@@ -13,9 +13,10 @@ use std::alloc::Global;
 /// The fault of a text that is no list of names.
 const NO_NAMES: CmdFault = CmdFault::BadOption(OptionFault::PublicationNames);
 
-/// The names that the text spells, one at least; C5 where it spells none.
+/// The names that the text spells, one at least, as START_REPLICATION reads `publication_names` (PostgreSQL 15, 55.5.1). `BadOption`
+/// (C5) where it spells none, `Memory` (C6).
 #[tactic(auto, unfolding(crate::specs::Reading::names_of))]
-pub(crate) fn names_of(alloc: Global, text: &str) -> Result<Items<Text>, CmdFault>
+pub fn names_of(alloc: Global, text: &str) -> Result<Items<Text>, CmdFault>
     ensures { Answers result (names_of text.now) }
 {
     let mut names = Vec::new(alloc);

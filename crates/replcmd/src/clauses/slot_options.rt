@@ -1,4 +1,4 @@
-//! The options of CREATE_REPLICATION_SLOT, behind their opening bracket.
+//! The options of CREATE_REPLICATION_SLOT, after their opening bracket.
 
 ghost use Rattle.std.specs.Prelude.{◌≡◌};
 ghost use Rattle.replcmd.specs.Commands.{closed_at, first_snapshot_at, first_two_phase_at, last_snapshot_at, other_option, slot_bracket_at, slot_options_at, snapshot_value_at, two_phase_at};
@@ -6,7 +6,7 @@ ghost use Rattle.replcmd.specs.declared.clauses.strictness.Strictness.TheVariant
 ghost use Rattle.replcmd.specs.Reading.{Gives, Moves};
 
 use crate::clauses::setting::goes_on;
-use crate::clauses::snapshot::Snapshot;
+use crate::clauses::snapshot_clause::SnapshotClause;
 use crate::clauses::strictness::Strictness;
 use crate::fault::CmdFault;
 use crate::text::token::{CLOSE, COMMA};
@@ -24,7 +24,7 @@ use crate::text::tokens::Tokens;
 pub(crate) fn slot_options_of(
     strictness: Strictness,
     tokens: &mut Tokens<'_>,
-) -> Result<Snapshot, CmdFault>
+) -> Result<SnapshotClause, CmdFault>
     ensures { Gives result tokens.new (slot_options_at strictness tokens.old) }
 {
     if tokens.takes_word("SNAPSHOT") {
@@ -38,7 +38,10 @@ pub(crate) fn slot_options_of(
 
 /// What follows the word SNAPSHOT where it stands first.
 #[tactic(auto, unfolding(crate::specs::Commands::first_snapshot_at))]
-fn first_snapshot(strictness: Strictness, tokens: &mut Tokens<'_>) -> Result<Snapshot, CmdFault>
+fn first_snapshot(
+    strictness: Strictness,
+    tokens: &mut Tokens<'_>,
+) -> Result<SnapshotClause, CmdFault>
     ensures { Gives result tokens.new (first_snapshot_at strictness tokens.old) }
 {
     let snapshot = snapshot_value(strictness, tokens)?;
@@ -46,15 +49,18 @@ fn first_snapshot(strictness: Strictness, tokens: &mut Tokens<'_>) -> Result<Sna
     Ok(snapshot)
 }
 
-fn snapshot_value(strictness: Strictness, tokens: &mut Tokens<'_>) -> Result<Snapshot, CmdFault>
+fn snapshot_value(
+    strictness: Strictness,
+    tokens: &mut Tokens<'_>,
+) -> Result<SnapshotClause, CmdFault>
     ensures { Gives result tokens.new (snapshot_value_at strictness tokens.old) }
 {
     let value = tokens.value()?;
-    let snapshot = Snapshot::named(strictness, value.as_str()).ok_or(CmdFault::Unsupported)?;
+    let snapshot = SnapshotClause::named(strictness, value.as_str()).ok_or(CmdFault::Unsupported)?;
     Ok(snapshot)
 }
 
-/// The closing bracket behind SNAPSHOT, or TWO_PHASE before it.
+/// The closing bracket after SNAPSHOT, or TWO_PHASE before it.
 #[tactic(auto, unfolding(crate::specs::Commands::closed_at))]
 fn close_of(strictness: Strictness, tokens: &mut Tokens<'_>) -> Result<(), CmdFault>
     ensures { Moves result tokens.new (closed_at strictness tokens.old) }
@@ -76,20 +82,20 @@ fn late_two_phase(tokens: &mut Tokens<'_>) -> Result<(), CmdFault>
     Ok(())
 }
 
-/// TWO_PHASE, and SNAPSHOT behind it where it stands there.
+/// TWO_PHASE, and SNAPSHOT after it where it stands there.
 #[tactic(auto, unfolding(crate::specs::Commands::first_two_phase_at))]
-fn first_two_phase(tokens: &mut Tokens<'_>) -> Result<Snapshot, CmdFault>
+fn first_two_phase(tokens: &mut Tokens<'_>) -> Result<SnapshotClause, CmdFault>
     ensures { Gives result tokens.new (first_two_phase_at tokens.old) }
 {
     two_phase_of(tokens)?;
     if goes_on(tokens)? {
         return last_snapshot(tokens);
     }
-    Ok(Snapshot::Export)
+    Ok(SnapshotClause::Export)
 }
 
 #[tactic(auto, unfolding(crate::specs::Commands::last_snapshot_at))]
-fn last_snapshot(tokens: &mut Tokens<'_>) -> Result<Snapshot, CmdFault>
+fn last_snapshot(tokens: &mut Tokens<'_>) -> Result<SnapshotClause, CmdFault>
     ensures { Gives result tokens.new (last_snapshot_at tokens.old) }
 {
     if !tokens.takes_word("SNAPSHOT") {

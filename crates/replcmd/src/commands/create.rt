@@ -4,7 +4,7 @@ ghost use Rattle.replcmd.specs.Commands.{create_at, ending_at, plugin_at};
 ghost use Rattle.replcmd.specs.Reading.{Answers, Gives, Moves};
 
 use crate::clauses::slot_options::slot_options_of;
-use crate::clauses::snapshot::Snapshot;
+use crate::clauses::snapshot_clause::SnapshotClause;
 use crate::clauses::strictness::Strictness;
 use crate::command::Command;
 use crate::fault::CmdFault;
@@ -48,7 +48,7 @@ fn plugin_of(alloc: Global, tokens: &mut Tokens<'_>) -> Result<(), CmdFault>
 }
 
 #[tactic(auto, unfolding(crate::specs::Commands::ending_at))]
-fn ending_of(strictness: Strictness, tokens: &mut Tokens<'_>) -> Result<Snapshot, CmdFault>
+fn ending_of(strictness: Strictness, tokens: &mut Tokens<'_>) -> Result<SnapshotClause, CmdFault>
     ensures { Gives result tokens.new (ending_at strictness tokens.old) }
 {
     if tokens.takes(OPEN) {

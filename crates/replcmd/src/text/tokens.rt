@@ -4,7 +4,7 @@ ghost use Rattle.std.specs.Prelude.{◌≡◌, IfOk};
 ghost use Rattle.replcmd.specs.Commands.{flag_at};
 ghost use Rattle.replcmd.specs.Reading.{Gives, Moves, Answers, name_of, name_at, slot_at, past_mark, past_word, past_snapshot, begins_with_name, GivesLent, verb_at, unexpected, keyword_at, end_at, position_at, value_at};
 
-use crate::clauses::snapshot::Snapshot;
+use crate::clauses::snapshot_clause::SnapshotClause;
 use crate::clauses::strictness::Strictness;
 use crate::fault::CmdFault;
 use crate::text::position::position_of;
@@ -135,16 +135,16 @@ impl<'a> Tokens<'a> {
     }
 
     /// What the keyword at the front says of a snapshot, and moves past it; else that it is exported, as where nothing is said.
-    pub(crate) fn snapshot(&mut self, strictness: Strictness) -> Snapshot
+    pub(crate) fn snapshot(&mut self, strictness: Strictness) -> SnapshotClause
         ensures { (result, self.new) ≡ past_snapshot strictness self.old }
     {
         if let Some((Token::Word(word), rest)) = self.rest.split_first()
-            && let Some(snapshot) = Snapshot::said(strictness, word.as_str())
+            && let Some(snapshot) = SnapshotClause::said(strictness, word.as_str())
         {
             self.rest = rest;
             return snapshot;
         }
-        Snapshot::Export
+        SnapshotClause::Export
     }
 
     /// Moves past a truth value, where a word or a value stands at the front.

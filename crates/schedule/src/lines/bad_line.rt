@@ -5,7 +5,7 @@ use thiserror::Error;
 
 /// Which texts are lines: those of schedules, or those of scripts, which may have more.
 #[derive(Clone, Copy, Debug, PartialEq, Eq)]
-pub enum Dialect {
+pub enum LineDialect {
     Schedule,
     /// A text may be written with escapes too, as in `E'a\n'`.
     Script,

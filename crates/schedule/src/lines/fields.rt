@@ -1,7 +1,7 @@
 //! The fields of a line, which single spaces separate.
 
 use crate::event::Literal;
-use crate::lines::bad_line::{BadLine, Dialect, LineRefusal};
+use crate::lines::bad_line::{BadLine, LineDialect, LineRefusal};
 use crate::lines::literals::{row_in, text_in};
 use pqformat::{Items, Text};
 use replcmd::{is_slot_name, parse_position};
@@ -14,11 +14,11 @@ const NAME_LIMIT: usize = 32;
 #[derive(Drop)]
 pub(crate) struct Fields<'a> {
     rest: Option<&'a str>,
-    dialect: Dialect,
+    dialect: LineDialect,
 }
 
 impl<'a> Fields<'a> {
-    pub(crate) fn new(line: &'a str, dialect: Dialect) -> Self {
+    pub(crate) fn new(line: &'a str, dialect: LineDialect) -> Self {
         Fields {
             rest: Some(line),
             dialect,

@@ -1,7 +1,7 @@
 //! The rows and keys of a schedule, which are values in parentheses that commas separate, and its texts in quotes.
 
 use crate::event::Literal;
-use crate::lines::bad_line::{BadLine, Dialect, LineRefusal};
+use crate::lines::bad_line::{BadLine, LineDialect, LineRefusal};
 use crate::lines::escapes::escaped_text;
 use pqformat::{Items, Text};
 use std::alloc::Global;
@@ -10,7 +10,7 @@ use std::alloc::Global;
 pub(crate) fn row_in(
     alloc: Global,
     text: &str,
-    dialect: Dialect,
+    dialect: LineDialect,
 ) -> Result<(Items<Literal>, &str), LineRefusal> {
     let inner = text
         .strip_prefix('(')
@@ -37,7 +37,11 @@ pub(crate) fn row_in(
 }
 
 /// The value that a text begins with, and what stands after it.
-fn literal_of(alloc: Global, text: &str, dialect: Dialect) -> Result<(Literal, &str), LineRefusal> {
+fn literal_of(
+    alloc: Global,
+    text: &str,
+    dialect: LineDialect,
+) -> Result<(Literal, &str), LineRefusal> {
     if text.starts_with('\'') || has_escapes(text, dialect) {
         let (content, behind) = text_in(alloc, text, dialect)?;
         return Ok((Literal::Text(content), behind));
@@ -52,15 +56,15 @@ fn literal_of(alloc: Global, text: &str, dialect: Dialect) -> Result<(Literal, &
 }
 
 /// Whether a text with escapes stands here, and may.
-fn has_escapes(text: &str, dialect: Dialect) -> bool {
-    dialect == Dialect::Script && text.starts_with("E'")
+fn has_escapes(text: &str, dialect: LineDialect) -> bool {
+    dialect == LineDialect::Script && text.starts_with("E'")
 }
 
 /// The content of the quoted text that a text begins with, such as `'it''s'`, and what stands after it.
 pub(crate) fn text_in(
     alloc: Global,
     text: &str,
-    dialect: Dialect,
+    dialect: LineDialect,
 ) -> Result<(Text, &str), LineRefusal> {
     if has_escapes(text, dialect) {
         let (content, behind) = escaped_text(alloc, text.strip_prefix("E'").unwrap_or(""))?;

@@ -2,7 +2,7 @@
 
 use crate::event::{ConnectionStep, Event, SessionStep};
 use crate::fault::WorldFault;
-use crate::lines::bad_line::{BadLine, Dialect, LineRefusal};
+use crate::lines::bad_line::{BadLine, LineDialect, LineRefusal};
 use crate::lines::fields::Fields;
 use crate::lines::start_options::StartOptions;
 use std::alloc::Global;
@@ -11,7 +11,7 @@ impl Event {
     /// The event that a line of a schedule spells; the line end is not part of the line. `BadEvent` (V1) where the text is no
     /// such line, `Memory` (V2) where there was no memory for the event.
     pub fn parse(alloc: Global, line: &str) -> Result<Event, WorldFault> {
-        match Event::read(alloc, line, Dialect::Schedule) {
+        match Event::read(alloc, line, LineDialect::Schedule) {
             Ok(event) => Ok(event),
             Err(LineRefusal::Bad(_)) => Err(WorldFault::BadEvent),
             Err(LineRefusal::Memory) => Err(WorldFault::Memory),
@@ -19,7 +19,7 @@ impl Event {
     }
 
     /// The same of a line of this dialect; `Bad` tells what is wrong with it. Or `Memory`.
-    pub fn read(alloc: Global, line: &str, dialect: Dialect) -> Result<Event, LineRefusal> {
+    pub fn read(alloc: Global, line: &str, dialect: LineDialect) -> Result<Event, LineRefusal> {
         let mut fields = Fields::new(line, dialect);
         let word = fields.word()?;
         let event = event_of(alloc, word, &mut fields)?;

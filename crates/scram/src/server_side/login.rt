@@ -21,7 +21,7 @@ const NO_MESSAGE: u32 = u32::MAX;
 
 /// Of whom a proof is asked, and by which nonce.
 #[derive(Drop)]
-pub struct Asked {
+pub struct ProofRequest {
     pub account: Account,
     /// New and random, printable, and without a comma.
     pub nonce: Items<u8>,
@@ -31,9 +31,9 @@ pub struct Asked {
 #[derive(Drop)]
 pub enum Login {
     /// The mechanism is waited for.
-    Offered(Asked),
+    Offered(ProofRequest),
     /// It was chosen without a first message, which is waited for.
-    Chosen(Asked),
+    Chosen(ProofRequest),
     /// The last message is waited for.
     Challenged(Exchange),
 }
@@ -78,7 +78,7 @@ impl Login {
 
 /// The challenge that answers the first message.
 #[tactic(auto, using(crate::proofs::Failing::fails))]
-fn begin(alloc: Global, asked: Asked, text: &[u8]) -> Result<Reply, ExchangeFault>
+fn begin(alloc: Global, asked: ProofRequest, text: &[u8]) -> Result<Reply, ExchangeFault>
     ensures { Answers result (begins asked text.now) }
 {
     let exchange = Exchange::begin(alloc, asked.account, asked.nonce.as_slice(), text)?;

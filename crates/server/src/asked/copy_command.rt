@@ -156,7 +156,7 @@ fn bare_of(alloc: Global, text: &[u8]) -> Result<Option<(Text, &[u8])>, AllocErr
     }
 }
 
-/// The bytes at the front that a name may have behind its first, and what follows them.
+/// The bytes at the front that a name may have after its first, and what follows them.
 fn split_name(text: &[u8]) -> (&[u8], &[u8])
     ensures whole { text.now ≡ result.0.now ++ result.1.now }
     ensures name { list_all goes_on_in_name result.0.now ≡ true }

@@ -21,7 +21,7 @@ pub(crate) fn literal_of(alloc: Global, text: &[u8]) -> Result<Option<(Text, &[u
     }
 }
 
-/// The same behind the E.
+/// The same after the E.
 fn escaped_of(alloc: Global, text: &[u8]) -> Result<Option<(Text, &[u8])>, AllocError>
     requires { IsUtf8 text.now }
     ensures { IfOk result

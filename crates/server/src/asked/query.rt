@@ -13,7 +13,7 @@ use crate::said::say::{say_created, say_dropped, say_identified, say_refused_rea
 use crate::said::starting::say_started;
 use bytes::BytesMut;
 use pqformat::Text;
-use replcmd::{CmdFault, Command, Snapshot, StreamOptions, Strictness, parse_command};
+use replcmd::{CmdFault, Command, SnapshotClause, StreamOptions, Strictness, parse_command};
 use std::alloc::{AllocError, Global};
 
 fn identify<D: Backend>(
@@ -62,7 +62,7 @@ fn create<D: Backend>(
     alloc: Global,
     query: &str,
     slot: &Text,
-    snapshot: Snapshot,
+    snapshot: SnapshotClause,
     backend: &mut D,
     out: &mut BytesMut,
 ) -> Result<(), AllocError>
@@ -71,8 +71,8 @@ fn create<D: Backend>(
         backend.new out.new.items }
 {
     match snapshot {
-        Snapshot::Export | Snapshot::Nothing => make_slot(alloc, slot, backend, out),
-        Snapshot::Use => refuse_use(alloc, query, backend, out),
+        SnapshotClause::Export | SnapshotClause::Nothing => make_slot(alloc, slot, backend, out),
+        SnapshotClause::Use => refuse_use(alloc, query, backend, out),
     }
 }
 

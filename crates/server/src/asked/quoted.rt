@@ -14,7 +14,7 @@ pub(crate) const LITERAL_QUOTE: u8 = b'\'';
 /// The quote round names.
 pub(crate) const NAME_QUOTE: u8 = b'"';
 
-/// What stands twice where it is meant, in a literal behind an E.
+/// What stands twice where it is meant, in a literal after an E.
 pub(crate) const BACKSLASH: u8 = b'\\';
 
 /// The text in quotes at the front, and what follows it; None where none stands there, or no quote closes it.

@@ -12,11 +12,11 @@ use crate::asked::telling_table::{
     tell_attributes, tell_column_lists, tell_row_filters, tell_table,
 };
 use crate::backend::Backend;
+use crate::connection_terms::Dialect;
 use crate::refusal::Refusal;
 use crate::said::say::{say_dropped, say_refused_ready};
 use crate::said::say_answers::{say_found_tables, say_path_set, say_publications, say_shown};
 use crate::said::say_columns_told::say_found_columns;
-use crate::service::Dialect;
 use bytes::BytesMut;
 use pqformat::{Items, Text};
 use replcmd::Strictness;

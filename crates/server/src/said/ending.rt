@@ -4,8 +4,8 @@ ghost use Rattle.frames.specs.declared.back.Back.TheVariants.{CopyDone};
 ghost use Rattle.pqformat.specs.Putting.{Puts};
 ghost use Rattle.server.specs.Said.{sent_frame, copied, end_of_stream};
 
+use crate::connection_terms::Dialect;
 use crate::said::say::{say, say_completed, say_ready};
-use crate::service::Dialect;
 use bytes::BytesMut;
 use frames::Back;
 use std::alloc::{AllocError, Global};

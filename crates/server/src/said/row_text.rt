@@ -1,17 +1,20 @@
 //! Rows as COPY sends them.
 
-ghost use Rattle.std.specs.Prelude.{◌≡◌, ◌++◌, ℕ, List, Option, length, IfOk, OnOk};
+ghost use Rattle.std.specs.Prelude.{◌≡◌, ◌++◌, ◌∷◌, [], ℕ, List, Option, false, length, true, IfOk, OnOk};
 ghost use Rattle.std.specs.List.{flat_map, AllByRecursion};
 ghost use Rattle.server.specs.RowText.{copied_byte, copied_value, further_value, row_text};
 
 use pqformat::Text;
 use std::alloc::{AllocError, Global};
 
+/// For how many bytes of a row there is room at first.
+const USUAL_BYTES: usize = 256;
+
 /// The text of this row (PostgreSQL 15, COPY, "Text Format"), with its line feed.
 pub(crate) fn row_text(alloc: Global, values: &[Option<Text>]) -> Result<Vec<u8>, AllocError>
     ensures { IfOk result (λ text. text.items ≡ row_text values.now) }
 {
-    let mut text = Vec::new(alloc);
+    let mut text = Vec::with_capacity(alloc, USUAL_BYTES)?;
     if let Some((first, others)) = values.split_first() {
         push_value(&mut text, first)?;
         push_others(&mut text, others)?;
@@ -43,10 +46,35 @@ fn push_value(text: &mut Vec<u8>, value: &Option<Text>) -> Result<(), AllocError
 fn push_escaped(text: &mut Vec<u8>, value: &[u8]) -> Result<(), AllocError>
     ensures { OnOk result (text.new.items ≡ text.old.items ++ flat_map copied_byte value.now) }
 {
+    // Most values have nothing to escape, and are copied at once.
+    if is_plain(value) {
+        return text.extend_from_slice(value);
+    }
     for byte in value {
         push_byte(text, *byte)?;
     }
     Ok(())
+}
+
+/// Whether no byte is escaped.
+fn is_plain(value: &[u8]) -> bool
+    ensures { result ≡ true → flat_map copied_byte value.now ≡ value.now }
+{
+    for byte in value {
+        if is_escaped(*byte) {
+            return false;
+        }
+    }
+    true
+}
+
+fn is_escaped(byte: u8) -> bool
+    ensures { result ≡ false → copied_byte byte ≡ byte ∷ [] }
+{
+    match byte {
+        b'\\' | 8 | b'\t' | b'\n' | 11 | 12 | b'\r' => true,
+        _ => false,
+    }
 }
 
 fn push_byte(text: &mut Vec<u8>, byte: u8) -> Result<(), AllocError>

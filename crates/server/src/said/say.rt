@@ -17,7 +17,7 @@ use crate::said::answer_rows::{identity_columns, identity_values, slot_columns, 
 use bytes::BytesMut;
 use frames::{
     Back, BackendKeyData, ColumnDescription, ColumnType, CommandComplete, DataRow, DataValue,
-    ErrorField, ErrorResponse, Parameter, RowDescription, Status, write_back,
+    ErrorField, ErrorResponse, Parameter, RowDescription, TransactionStatus, write_back,
 };
 use pqformat::{Items, Text};
 use replcmd::write_position;
@@ -53,7 +53,7 @@ pub(crate) fn say(out: &mut BytesMut, frame: Back) -> Result<(), AllocError>
 pub(crate) fn say_ready(out: &mut BytesMut) -> Result<(), AllocError>
     ensures { Puts result out.old.items out.new.items ready }
 {
-    say(out, Back::ReadyForQuery(Status::Idle))
+    say(out, Back::ReadyForQuery(TransactionStatus::Idle))
 }
 
 fn error_field(alloc: Global, code: u8, text: &str) -> Result<ErrorField, AllocError>

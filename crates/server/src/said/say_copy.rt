@@ -4,7 +4,7 @@ ghost use Rattle.std.specs.Prelude.{◌≡◌, ◌≤◌, ◌++◌, length, code
 ghost use Rattle.std.specs.Fmt.{decimal};
 ghost use Rattle.std.specs.List.{flat_map};
 ghost use Rattle.frames.specs.declared.back.Back.TheVariants.{CopyDone, ReadyForQuery};
-ghost use Rattle.frames.specs.declared.backend.ready_for_query.Status.{Status as BlockStatus};
+ghost use Rattle.frames.specs.declared.backend.ready_for_query.TransactionStatus.{TransactionStatus as BlockStatus};
 ghost use Rattle.pqformat.specs.Fields.{int16};
 ghost use Rattle.pqformat.specs.Putting.{Puts};
 ghost use Rattle.server.specs.Copies.{copied_row, copy_begun, copy_ended, opening_said, refused_in_block};
@@ -17,7 +17,7 @@ use crate::refusal::Refusal;
 use crate::said::row_text::row_text;
 use crate::said::say::{say, say_completed, say_refused};
 use bytes::BytesMut;
-use frames::{Back, CopyData, Status};
+use frames::{Back, CopyData, TransactionStatus};
 use pqformat::{Items, Text, put_byte, put_int16, put_int32};
 use std::alloc::{AllocError, Global};
 
@@ -60,7 +60,7 @@ fn say_ready_failed(out: &mut BytesMut) -> Result<(), AllocError>
     ensures { Puts result out.old.items out.new.items
         (sent_frame (ReadyForQuery BlockStatus.Failed)) }
 {
-    say(out, Back::ReadyForQuery(Status::Failed))
+    say(out, Back::ReadyForQuery(TransactionStatus::Failed))
 }
 
 /// That a block's next query is waited for.
@@ -69,7 +69,7 @@ fn say_ready_in_block(out: &mut BytesMut) -> Result<(), AllocError>
     ensures { Puts result out.old.items out.new.items
         (sent_frame (ReadyForQuery BlockStatus.InTransaction)) }
 {
-    say(out, Back::ReadyForQuery(Status::InTransaction))
+    say(out, Back::ReadyForQuery(TransactionStatus::InTransaction))
 }
 
 /// That a block fails by what it refuses.

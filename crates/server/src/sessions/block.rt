@@ -5,10 +5,10 @@ ghost use Rattle.std.specs.Prelude.{◌≡◌, ◌≢◌, ◌≤◌, None, lengt
 ghost use Rattle.server.specs.Blocks.{apart_of, begins_block, ending_of, ending_tag, is_error, HasShortUse, ReadsApart};
 
 use crate::asked::database::Database;
-use crate::service::Dialect;
+use crate::connection_terms::Dialect;
 use frames::ERROR_RESPONSE;
 use pqformat::Text;
-use replcmd::{CmdFault, Command, Snapshot, Strictness, parse_command};
+use replcmd::{CmdFault, Command, SnapshotClause, Strictness, parse_command};
 use std::alloc::{AllocError, Global};
 
 /// How far a transaction block is.
@@ -45,19 +45,19 @@ impl Block {
 
 /// What ends a block.
 #[derive(Clone, Copy, Debug, PartialEq, Eq)]
-pub enum Ending {
+pub enum BlockEnding {
     Commit,
     Rollback,
 }
 
-impl Ending {
+impl BlockEnding {
     /// What is said of a block in this state that is ended so: one that failed is rolled back.
     pub(crate) fn tag(self, state: BlockState) -> &'static str
         ensures tag { result.now ≡ ending_tag state self }
         ensures short { length result.now ≤ 40 }
     {
         match (state, self) {
-            (BlockState::Begun | BlockState::Used, Ending::Commit) => "COMMIT",
+            (BlockState::Begun | BlockState::Used, BlockEnding::Commit) => "COMMIT",
             _ => "ROLLBACK",
         }
     }
@@ -85,14 +85,14 @@ pub(crate) fn begins_block(dialect: Dialect, text: &str) -> bool
 }
 
 /// How the text ends one, if it does.
-pub(crate) fn ending_of(text: &str) -> Option<Ending>
+pub(crate) fn ending_of(text: &str) -> Option<BlockEnding>
     ensures { result ≡ ending_of text.now }
 {
     if text == "COMMIT" {
-        return Some(Ending::Commit);
+        return Some(BlockEnding::Commit);
     }
     if text == "ROLLBACK" {
-        return Some(Ending::Rollback);
+        return Some(BlockEnding::Rollback);
     }
     None
 }
@@ -103,11 +103,11 @@ fn apart_of(command: Command) -> Option<Apart>
     match command {
         Command::Create {
             slot,
-            snapshot: Snapshot::Use,
+            snapshot: SnapshotClause::Use,
         } => Some(Apart::Use(slot)),
         Command::Create {
             slot: _,
-            snapshot: Snapshot::Export,
+            snapshot: SnapshotClause::Export,
         } => Some(Apart::Export),
         Command::Start { .. } => Some(Apart::Start),
         _ => None,

@@ -13,15 +13,15 @@ use crate::asked::database::Database;
 use crate::asked::replying::reply_in;
 use crate::backend::Backend;
 use crate::backend_fault::BackendFault;
+use crate::connection_terms::Dialect;
 use crate::refusal::Refusal;
 use crate::said::say::{say, say_completed, say_created, say_ready, say_refused_ready};
-use crate::service::Dialect;
 use crate::sessions::block::{
-    Apart, Block, BlockState, Ending, begins_block, ending_of, is_error, read_apart,
+    Apart, Block, BlockEnding, BlockState, begins_block, ending_of, is_error, read_apart,
 };
 use crate::stages::stage::Stage;
 use bytes::BytesMut;
-use frames::{Back, Status};
+use frames::{Back, TransactionStatus};
 use pqformat::{Text, put_byte, put_bytes};
 use std::alloc::{AllocError, Global};
 
@@ -39,7 +39,7 @@ fn say_block_begun(alloc: Global, out: &mut BytesMut) -> Result<(), AllocError>
     ensures { Puts result out.old.items out.new.items block_begun }
 {
     say_completed(alloc, out, "BEGIN")?;
-    say(out, Back::ReadyForQuery(Status::InTransaction))
+    say(out, Back::ReadyForQuery(TransactionStatus::InTransaction))
 }
 
 fn new_block(database: Database) -> Block
@@ -359,7 +359,7 @@ fn let_go<D: Backend>(holds: bool, backend: &mut D)
 fn end<D: Backend>(
     alloc: Global,
     block: Block,
-    ending: Ending,
+    ending: BlockEnding,
     backend: &mut D,
     out: &mut BytesMut,
 ) -> Result<Stage, AllocError>

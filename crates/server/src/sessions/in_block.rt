@@ -6,9 +6,9 @@ ghost use Rattle.server.specs.Turns.{HearsInBlock};
 ghost use Rattle.server.specs.declared.stages.stage.Stage.TheVariants.{InBlock};
 
 use crate::backend::Backend;
+use crate::connection_terms::ConnectionTerms;
 use crate::refusal::Refusal;
 use crate::said::say::say_refused;
-use crate::service::Service;
 use crate::sessions::block::Block;
 use crate::sessions::block_query::answer_in_block;
 use crate::stages::stage::{Stage, Turned, refuse};
@@ -44,7 +44,7 @@ pub(crate) fn turn_block<D: Backend>(
     backend: &mut D,
     out: &mut BytesMut,
 ) -> Result<Turned, AllocError>
-    ensures { (service : Service) →
+    ensures { (service : ConnectionTerms) →
         TakesTurn D.told service (InBlock block) pending.now result backend.old out.old.items
         backend.new out.new.items }
 {

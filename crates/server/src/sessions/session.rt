@@ -13,9 +13,9 @@ use crate::asked::database::Database;
 use crate::asked::extended::{Extended, is_extended, read_extended};
 use crate::asked::replying::reply_in;
 use crate::backend::Backend;
+use crate::connection_terms::{ConnectionTerms, Dialect};
 use crate::refusal::Refusal;
 use crate::said::say::{say_ready, say_refused, say_refused_ready};
-use crate::service::{Dialect, Service};
 use crate::sessions::block::begins_block;
 use crate::sessions::block_query::begin;
 use crate::stages::stage::{Stage, Turned, refuse};
@@ -115,7 +115,7 @@ fn turn_extended(
     out: &mut BytesMut,
 ) -> Result<Turned, AllocError>
     requires { is_extended pending.now ≡ true }
-    ensures turned { (service : Service) →
+    ensures turned { (service : ConnectionTerms) →
         IfOk result
         (λ t. IsTurned service (Idle database) pending.now t (out.new.items ≡ out.old.items)
         (λ fact. Said fact out.old.items out.new.items)) }
@@ -137,7 +137,7 @@ fn turn_extended(
 /// The turn of a session.
 pub(crate) fn turn_session<D: Backend>(
     alloc: Global,
-    service: Service,
+    service: ConnectionTerms,
     database: Database,
     pending: &[u8],
     backend: &mut D,

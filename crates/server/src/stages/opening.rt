@@ -8,10 +8,10 @@ ghost use Rattle.server.specs.Opening.{value_of, opened_database, is_database, f
 ghost use Rattle.server.specs.Said.{answer_to_startup, greeting_of};
 
 use crate::asked::database::{Database, MOST_DATABASE_BYTES};
+use crate::connection_terms::{ConnectionTerms, Dialect};
 use crate::refusal::Refusal;
 use crate::said::say::{say_greeting, say_refused};
 use crate::said::say_answers::say_other_greeting;
-use crate::service::{Dialect, Service};
 use bytes::BytesMut;
 use frames::Parameter;
 use pqformat::Text;
@@ -57,7 +57,7 @@ fn database_of(parameters: &[Parameter]) -> &str
 
 /// The beginning of a session.
 #[tactic(auto, using(pqformat::proofs::Putting::in_place))]
-fn greet(alloc: Global, service: Service, out: &mut BytesMut) -> Result<(), AllocError>
+fn greet(alloc: Global, service: ConnectionTerms, out: &mut BytesMut) -> Result<(), AllocError>
     ensures { Puts result out.old.items out.new.items (greeting_of service) }
 {
     match service.dialect {
@@ -73,7 +73,7 @@ fn greet(alloc: Global, service: Service, out: &mut BytesMut) -> Result<(), Allo
 #[tactic(auto, using(pqformat::proofs::Putting::in_place), unfolding(crate::specs::Opening::opened_database))]
 pub(crate) fn open(
     alloc: Global,
-    service: Service,
+    service: ConnectionTerms,
     parameters: &[Parameter],
     out: &mut BytesMut,
 ) -> Result<Option<Database>, AllocError>

@@ -9,8 +9,8 @@ ghost use Rattle.server.specs.declared.stages.stage.Stage.TheVariants.{Skipping}
 
 use crate::asked::database::Database;
 use crate::asked::extended::{Extended, is_extended, read_extended};
+use crate::connection_terms::ConnectionTerms;
 use crate::said::say::say_ready;
-use crate::service::Service;
 use crate::stages::stage::{Stage, Turned, refuse};
 use bytes::BytesMut;
 use frames::{Front, read_front};
@@ -45,7 +45,7 @@ fn skip_extended(
     out: &mut BytesMut,
 ) -> Result<Turned, AllocError>
     requires { is_extended pending.now ≡ true }
-    ensures turned { (service : Service) →
+    ensures turned { (service : ConnectionTerms) →
         IfOk result
         (λ t. IsTurned service (Skipping database) pending.now t (out.new.items ≡ out.old.items)
         (λ fact. Said fact out.old.items out.new.items)) }
@@ -83,7 +83,7 @@ pub(crate) fn turn_skipping(
     pending: &[u8],
     out: &mut BytesMut,
 ) -> Result<Turned, AllocError>
-    ensures turned { (service : Service) →
+    ensures turned { (service : ConnectionTerms) →
         IfOk result
         (λ t. IsTurned service (Skipping database) pending.now t (out.new.items ≡ out.old.items)
         (λ fact. Said fact out.old.items out.new.items)) }

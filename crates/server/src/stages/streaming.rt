@@ -10,9 +10,9 @@ ghost use Rattle.server.specs.declared.stages.stage.Stage.TheVariants.{Streaming
 
 use crate::asked::database::Database;
 use crate::backend::Backend;
+use crate::connection_terms::ConnectionTerms;
 use crate::refusal::Refusal;
 use crate::said::say::say_refused;
-use crate::service::Service;
 use crate::stages::stage::{Stage, Turned, refuse};
 use bytes::BytesMut;
 use copyboth::{Status, read_client};
@@ -80,7 +80,7 @@ pub(crate) fn turn_stream<D: Backend>(
     backend: &mut D,
     out: &mut BytesMut,
 ) -> Result<Turned, AllocError>
-    ensures { (service : Service) →
+    ensures { (service : ConnectionTerms) →
         TakesTurn D.told service (Streaming database) pending.now result backend.old out.old.items
         backend.new out.new.items }
 {

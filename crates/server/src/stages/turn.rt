@@ -12,7 +12,7 @@ ghost use Rattle.server.specs.declared.stages.stage.Stage.TheVariants.{Fresh};
 
 use crate::asked::database::MOST_DATABASE_BYTES;
 use crate::backend::Backend;
-use crate::service::Service;
+use crate::connection_terms::ConnectionTerms;
 use crate::sessions::in_block::turn_block;
 use crate::sessions::session::turn_session;
 use crate::stages::opening::open;
@@ -27,7 +27,7 @@ use std::alloc::{AllocError, Global};
 #[tactic(auto, using(pqformat::proofs::Putting::in_place))]
 fn open_session(
     alloc: Global,
-    service: Service,
+    service: ConnectionTerms,
     parameters: &[Parameter],
     out: &mut BytesMut,
 ) -> Result<Stage, AllocError>
@@ -54,7 +54,7 @@ fn decline(out: &mut BytesMut) -> Result<(), AllocError>
 #[tactic(auto, using(pqformat::proofs::Putting::in_place))]
 fn answer_startup(
     alloc: Global,
-    service: Service,
+    service: ConnectionTerms,
     startup: &Startup,
     out: &mut BytesMut,
 ) -> Result<Stage, AllocError>
@@ -82,7 +82,7 @@ fn answer_startup(
 #[tactic(auto, using(pqformat::proofs::Putting::in_place))]
 fn turn_startup(
     alloc: Global,
-    service: Service,
+    service: ConnectionTerms,
     pending: &[u8],
     out: &mut BytesMut,
 ) -> Result<Turned, AllocError>
@@ -107,7 +107,7 @@ fn turn_startup(
 /// Takes one turn at this stage. While a stream stops, all that is pending waits; closed, it is passed over.
 pub(crate) fn turn<D: Backend>(
     alloc: Global,
-    service: Service,
+    service: ConnectionTerms,
     stage: Stage,
     pending: &[u8],
     backend: &mut D,

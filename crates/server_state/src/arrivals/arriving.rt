@@ -3,8 +3,8 @@
 use crate::fault::ServeFault;
 use crate::server_state::ServerState;
 use connections::{
-    AcceptError, Arrival, ServerObserver, StreamError, Unserved, hear_in_crowd, is_of_listener,
-    next_socket, rest, write_stream_error,
+    AcceptError, Arrival, ConnectionRefusal, ServerObserver, StreamError, hear_in_crowd,
+    is_of_listener, next_socket, rest, write_stream_error,
 };
 use shared_log::LogName;
 use slots::SlotName;
@@ -18,7 +18,7 @@ const MOST_HEARD: u32 = 16;
 
 /// What becomes of a connection that came.
 #[derive(Clone, Copy, PartialEq, Eq)]
-pub enum Place {
+pub enum Admission {
     Served,
     /// As many are served as may be, and it is told so once its startup is there.
     Crowd,
@@ -33,7 +33,7 @@ impl<L: LogName + SlotName> ServerState<L> {
         listener: &TcpListener,
         observer: &G,
         arrival: &Arrival,
-    ) -> Result<Option<Place>, ServeFault> {
+    ) -> Result<Option<Admission>, ServeFault> {
         match next_socket(listener, self.silence(), self.stalling()) {
             Ok(socket) => Ok(self.takes(rt, observer, arrival, socket)),
             Err(fault) if is_of_listener(&fault) => Err(ServeFault::Listener(fault)),
@@ -61,40 +61,40 @@ impl<L: LogName + SlotName> ServerState<L> {
         observer: &G,
         arrival: &Arrival,
         socket: TcpStream,
-    ) -> Option<Place> {
+    ) -> Option<Admission> {
         if self.is_ending() {
             return None;
         }
         let place = self.place_of_one_more();
         match place {
             Some(_) => arrival.put(rt, socket),
-            None => self.refuse(observer, Unserved::Crowd, &socket),
+            None => self.refuse(observer, ConnectionRefusal::Crowd, &socket),
         }
         place
     }
 
-    fn place_of_one_more(&self) -> Option<Place> {
+    fn place_of_one_more(&self) -> Option<Admission> {
         if self.admit() {
             if self.admits_stranger() {
-                return Some(Place::Served);
+                return Some(Admission::Served);
             }
             self.dismiss();
         }
         if MOST_HEARD <= self.crowd.fetch_add(1, Ordering::SeqCst) {
-            self.free_place(Place::Crowd);
+            self.free_place(Admission::Crowd);
             return None;
         }
-        Some(Place::Crowd)
+        Some(Admission::Crowd)
     }
 
     /// A connection has its place no more.
-    fn free_place(&self, place: Place) {
+    fn free_place(&self, place: Admission) {
         match place {
-            Place::Served => {
+            Admission::Served => {
                 self.leave_strangers();
                 self.dismiss();
             }
-            Place::Crowd => {
+            Admission::Crowd => {
                 self.crowd.fetch_sub(1, Ordering::SeqCst);
             }
         }
@@ -106,7 +106,7 @@ impl<L: LogName + SlotName> ServerState<L> {
         rt: &R,
         observer: &G,
         arrival: &Arrival,
-        place: Place,
+        place: Admission,
         is_begun: bool,
     ) -> bool {
         if !is_begun {
@@ -139,16 +139,16 @@ impl<L: LogName + SlotName> ServerState<L> {
         }
         arrival.settle(rt);
         if hear_in_crowd(rt, self.alloc, &socket, self.startup_until(rt)) {
-            self.refuse(observer, Unserved::Crowd, &socket);
+            self.refuse(observer, ConnectionRefusal::Crowd, &socket);
         }
         self.turned_away.leave(rt, number);
-        self.free_place(Place::Crowd);
+        self.free_place(Admission::Crowd);
     }
 
     /// Tells a client that it can't be served beside the others. After the server's end nobody is told anything.
-    fn refuse<G: ServerObserver>(&self, observer: &G, why: Unserved, socket: &TcpStream) {
+    fn refuse<G: ServerObserver>(&self, observer: &G, why: ConnectionRefusal, socket: &TcpStream) {
         observer.not_accepted(socket.peer_addr().ok(), &AcceptError::Closed(why));
-        if why != Unserved::ServerEnd {
+        if why != ConnectionRefusal::ServerEnd {
             let mut to = socket;
             let _ = write_stream_error(self.alloc, StreamError::Crowd, &mut to);
         }

@@ -7,18 +7,23 @@ use std::sync::Wait;
 
 impl<L: LogName + SlotName> ServerState<L> {
     /// From now on no connection is served but those that are. Each stream sends what is held and what the log has, and CopyDone;
-    /// then its connection is closed, and each other one at once. `serve` returns once its listener gave one more socket and all
-    /// connections have ended.
+    /// once its client tells nothing more its connection is closed, and each other one at once. `serve` returns once its listener
+    /// gave one more socket and all connections have ended.
     pub fn shut_down<R: Wait>(&self, rt: &R) {
         self.sockets.end(rt);
         self.end_crowd(rt);
         for monitor in &self.monitors {
             monitor.close(rt);
         }
+        self.wake_all(rt);
+        self.end_awaiting(rt);
+    }
+
+    /// Each stream looks for work.
+    fn wake_all<R: Wait>(&self, rt: &R) {
         for latch in &self.latches {
             latch.tell_work(rt);
         }
-        self.end_awaiting(rt);
     }
 
     /// From now on no connection is heard out that is too many.

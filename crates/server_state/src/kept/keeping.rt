@@ -21,24 +21,17 @@ const LOOK: u64 = 100;
 
 /// A slot that was made, with the snapshot of all that committed below its consistent point.
 #[derive(Clone, Copy)]
-pub struct SlotSnapshot {
+pub struct SlotWithSnapshot {
     pub consistent_point: u64,
     /// Its number.
     pub snapshot: u64,
 }
 
 impl<L: LogName + SlotName> ServerState<L> {
-    /// Where the log ends.
-    pub fn end_of_log<R: Wait>(&self, rt: &R) -> u64 {
-        let publisher = self.publisher.lock(rt);
-        let end = publisher.end();
-        let _ = MutexGuard::unlock(publisher);
-        end
-    }
-
     /// Makes a slot of this user, if any, at the log's end, and answers that position. `SlotExists` (L3) where the name is there,
-    /// `NoSlotPlace` (L4) where there are as many slots as may be, or `Memory`.
-    // The publisher is locked until the slot's monitor says what is kept for it, so that nothing of that is given back meanwhile.
+    /// `NoSlotPlace` (L4) where there are as many slots as may be, or `Memory`. No transaction in progress is waited for: what it
+    /// commits later is streamed from there on.
+    // The counter is locked until the slot's monitor says what is kept for it, so that nothing of that is given back meanwhile.
     pub fn create_slot<R: Wait>(
         &self,
         rt: &R,
@@ -46,9 +39,9 @@ impl<L: LogName + SlotName> ServerState<L> {
         user: Option<&str>,
     ) -> Result<u64, BackendFault> {
         let owner = self.owner(user)?;
-        let publisher = self.publisher.lock(rt);
-        let created = self.create_slot_at(rt, name, owner, publisher.end());
-        let _ = MutexGuard::unlock(publisher);
+        let counter = self.counter.lock(rt);
+        let created = self.create_slot_at(rt, name, owner, self.end_of_log(rt));
+        drop(counter);
         created
     }
 
@@ -59,7 +52,7 @@ impl<L: LogName + SlotName> ServerState<L> {
         rt: &R,
         name: &str,
         user: Option<&str>,
-    ) -> Result<SlotSnapshot, BackendFault> {
+    ) -> Result<SlotWithSnapshot, BackendFault> {
         let owner = self.owner(user)?;
         let mut publisher = self.publisher.lock(rt);
         let created = self.create_over_snapshot(rt, &mut *publisher, name, owner);
@@ -73,13 +66,13 @@ impl<L: LogName + SlotName> ServerState<L> {
         publisher: &mut Publisher<L>,
         name: &str,
         owner: Option<Text>,
-    ) -> Result<SlotSnapshot, BackendFault> {
+    ) -> Result<SlotWithSnapshot, BackendFault> {
         let Ok(snapshot) = publisher.open_snapshot() else {
             drop(owner);
             return Err(BackendFault::Memory);
         };
         match self.create_slot_at(rt, name, owner, publisher.end()) {
-            Ok(consistent_point) => Ok(SlotSnapshot {
+            Ok(consistent_point) => Ok(SlotWithSnapshot {
                 consistent_point,
                 snapshot,
             }),

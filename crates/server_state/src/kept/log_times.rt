@@ -16,24 +16,24 @@ const MOMENT: u64 = 1000;
 
 /// Where the log ended once something was written, and when that was, in microseconds.
 #[derive(Clone, Copy)]
-struct Mark {
+struct LogTime {
     end: u64,
     at: u64,
 }
 
-impl Mark {
+impl LogTime {
     /// One mark in place of two, which tells the time of the earlier one.
-    fn merged(self, other: Mark) -> Mark
+    fn merged(self, other: LogTime) -> LogTime
         ensures { result ≡ merged self other }
     {
-        Mark {
+        LogTime {
             end: self.end.max(other.end),
             at: self.at.min(other.at),
         }
     }
 
     /// Whether, seen from now, it may tell the time of a later one too.
-    fn is_close_to(self, later: Mark, now: u64) -> bool {
+    fn is_close_to(self, later: LogTime, now: u64) -> bool {
         let age = now.saturating_sub(later.at);
         later.at.saturating_sub(self.at) <= (age / PRECISION).max(MOMENT)
     }
@@ -44,8 +44,8 @@ impl Mark {
 #[derive(Drop)]
 pub(crate) struct LogTimes {
     alloc: Global,
-    marks: Vec<Mark>,
-    last: Option<Mark>,
+    marks: Vec<LogTime>,
+    last: Option<LogTime>,
 }
 
 impl LogTimes {
@@ -64,7 +64,7 @@ impl LogTimes {
         ensures { TellNoLater (marks_of self.old ++ record { end = end; at = now } ∷ [])
             (marks_of self.new) }
     {
-        let mark = Mark { end, at: now };
+        let mark = LogTime { end, at: now };
         match self.last {
             Some(last) => {
                 self.last = if self.keep(last, now) {
@@ -77,8 +77,8 @@ impl LogTimes {
         }
     }
 
-    /// Keeps a mark behind the others, where there is room for it, and answers whether there was.
-    fn keep(&mut self, mark: Mark, now: u64) -> bool
+    /// Keeps a mark after the others, where there is room for it, and answers whether there was.
+    fn keep(&mut self, mark: LogTime, now: u64) -> bool
         ensures kept { result ≡ true → TellNoLater (self.old.marks.items ++ mark ∷ [])
             self.new.marks.items }
         ensures full { result ≡ false → TellNoLater self.old.marks.items self.new.marks.items }
@@ -115,7 +115,7 @@ impl LogTimes {
     }
 }
 
-fn past_in(marks: &[Mark], position: u64) -> Option<u64>
+fn past_in(marks: &[LogTime], position: u64) -> Option<u64>
     ensures { result ≡ past position marks.now }
 {
     for mark in marks {
@@ -126,7 +126,7 @@ fn past_in(marks: &[Mark], position: u64) -> Option<u64>
     None
 }
 
-fn thinned(alloc: Global, marks: &[Mark], now: u64) -> Result<Vec<Mark>, AllocError>
+fn thinned(alloc: Global, marks: &[LogTime], now: u64) -> Result<Vec<LogTime>, AllocError>
     ensures { IfOk result (λ thinned. TellNoLater marks.now thinned.items) }
 {
     let mut thinned = Vec::new(alloc);
@@ -137,7 +137,7 @@ fn thinned(alloc: Global, marks: &[Mark], now: u64) -> Result<Vec<Mark>, AllocEr
 }
 
 /// Adds a mark, or merges it with the last one, if they are close.
-fn add(marks: &mut Vec<Mark>, mark: Mark, now: u64) -> Result<(), AllocError>
+fn add(marks: &mut Vec<LogTime>, mark: LogTime, now: u64) -> Result<(), AllocError>
     ensures { OnOk result (TellNoLater (marks.old.items ++ mark ∷ []) marks.new.items) }
 {
     match marks.pop() {

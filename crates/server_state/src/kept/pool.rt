@@ -29,11 +29,11 @@ impl<L: LogName + SlotName> ReaderSeat<L> {
 
 /// The seats that no stream has.
 #[derive(Drop)]
-pub(crate) struct Pool<L: LogName + SlotName> {
+pub(crate) struct ReaderPool<L: LogName + SlotName> {
     reader_seats: Vec<ReaderSeat<L>>,
 }
 
-impl<L: LogName + SlotName> Pool<L> {
+impl<L: LogName + SlotName> ReaderPool<L> {
     /// Each reader with a seat. `AllocError` where memory is refused.
     pub fn of(
         alloc: Global,
@@ -45,7 +45,7 @@ impl<L: LogName + SlotName> Pool<L> {
             let latch = reader_seats.len();
             reader_seats.push(ReaderSeat::of(reader, seat, latch))?;
         }
-        Ok(Pool { reader_seats })
+        Ok(ReaderPool { reader_seats })
     }
 
     /// A seat, if there is one.

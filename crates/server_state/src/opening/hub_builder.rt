@@ -13,7 +13,7 @@ use publication::Publications;
 use slots::OpenedSlots;
 use std::alloc::Global;
 use std::time::Duration;
-use txlog::Opened;
+use txlog::PublisherParts;
 
 /// How many chunks the arena of a stream has, unless another number is set: a mebibyte.
 const CHUNKS: u32 = 64;
@@ -40,7 +40,7 @@ pub struct HubBuilder {
     pub(crate) alloc: Global,
     pub(crate) publications: Publications,
     pub(crate) system: SystemName,
-    pub log: Opened,
+    pub log: PublisherParts,
     pub slots: OpenedSlots,
     pub settings: HubSettings,
     /// Those that may connect by their passwords: everyone without one, unless it is set.
@@ -82,7 +82,7 @@ impl HubBuilder {
 #[derive(Drop)]
 struct Parts {
     system: SystemName,
-    log: Opened,
+    log: PublisherParts,
     slots: OpenedSlots,
 }
 
@@ -114,7 +114,7 @@ fn log_and_slots(
     alloc: Global,
     catalog: Catalog,
     records: usize,
-) -> Result<(Opened, OpenedSlots), HubFault>
+) -> Result<(PublisherParts, OpenedSlots), HubFault>
     requires some { 1 ≤ records }
     requires few { records ≤ MAX_RECORDS }
 {
@@ -145,11 +145,11 @@ fn settings_for(records: usize) -> HubSettings {
     }
 }
 
-fn log_of(alloc: Global, catalog: Catalog, records: usize) -> Result<Opened, HubFault>
+fn log_of(alloc: Global, catalog: Catalog, records: usize) -> Result<PublisherParts, HubFault>
     requires some { 1 ≤ records }
     requires few { records ≤ MAX_RECORDS }
 {
-    match Opened::new(alloc, catalog, records, 1) {
+    match PublisherParts::new(alloc, catalog, records, 1) {
         Ok(log) => Ok(log),
         Err(_) => Err(HubFault::Memory),
     }

@@ -4,14 +4,14 @@ ghost use Rattle.std.specs.Prelude.{◌≡◌};
 
 use crate::fault::HubFault;
 use crate::kept::owned_names::OwnedNames;
-use crate::kept::pool::Pool;
+use crate::kept::pool::ReaderPool;
 use crate::opening::at_once::AtOnce;
 use connections::{Latch, Names, SlotMonitor};
 use shared_log::{LogName, LogReader};
 use slots::{OpenedSlots, SlotName, SlotSeat, SlotTable};
 use std::alloc::{AllocError, Global};
 use std::sync::Wait;
-use txlog::{Opened, Publisher};
+use txlog::{Publisher, PublisherParts};
 
 /// What of a hub hangs on its slots alone.
 #[derive(Drop)]
@@ -26,7 +26,7 @@ pub(crate) struct Places<L: SlotName> {
 pub(crate) struct Shared<L: LogName + SlotName> {
     pub places: Places<L>,
     pub publisher: Publisher<L>,
-    pub pool: Pool<L>,
+    pub pool: ReaderPool<L>,
     pub counter: LogReader<L>,
 }
 
@@ -34,7 +34,7 @@ impl<L: LogName + SlotName> Shared<L> {
     pub fn open<R: Wait>(
         rt: &R,
         alloc: Global,
-        log: Opened,
+        log: PublisherParts,
         slots: OpenedSlots,
         at_once: AtOnce,
     ) -> Result<Self, HubFault>
@@ -161,9 +161,9 @@ fn monitors_of(alloc: Global, slots: usize) -> Result<Vec<SlotMonitor>, AllocErr
 fn published<L: LogName + SlotName, R: Wait>(
     rt: &R,
     alloc: Global,
-    log: Opened,
+    log: PublisherParts,
     seats: Vec<SlotSeat<L>>,
-) -> Result<(Publisher<L>, Pool<L>, LogReader<L>), HubFault>
+) -> Result<(Publisher<L>, ReaderPool<L>, LogReader<L>), HubFault>
     requires { log.history.seen.book ≡ L.book }
 {
     match Publisher::<L>::open(rt, log) {
@@ -182,9 +182,9 @@ fn parted<L: LogName + SlotName>(
     alloc: Global,
     mut readers: Vec<LogReader<L>>,
     seats: Vec<SlotSeat<L>>,
-) -> Option<(Pool<L>, LogReader<L>)> {
+) -> Option<(ReaderPool<L>, LogReader<L>)> {
     let counter = readers.pop()?;
-    match Pool::of(alloc, readers, seats) {
+    match ReaderPool::of(alloc, readers, seats) {
         Ok(pool) => Some((pool, counter)),
         Err(_) => None,
     }

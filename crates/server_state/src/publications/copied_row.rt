@@ -37,7 +37,7 @@ fn texts_of(alloc: Global, cells: Items<Cell>) -> Result<Items<Option<Text>>, Al
     if cells.len() > MAX_COLUMNS {
         return Err(AllocError);
     }
-    let mut texts = Vec::new(alloc);
+    let mut texts = Vec::with_capacity(alloc, cells.len())?;
     for cell in cells.into_vec() {
         texts.push(text_of(cell)?)?;
     }

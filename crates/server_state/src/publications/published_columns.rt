@@ -13,8 +13,8 @@ use server::{BackendFault, TableColumns, TableName};
 use std::alloc::{AllocError, Global};
 use tables::MAX_COLUMNS;
 
-/// The tables of the publications of these names, each once, with their columns that are published. P2 where two of those have
-/// different column lists for one of them.
+/// The tables of the publications of these names, each once, with their columns that are published. `ListConflict`
+/// (P2) where two of those have different column lists for one of them, or `Memory`.
 pub fn columns_of(
     alloc: Global,
     publications: &Publications,

@@ -8,7 +8,7 @@ use crate::server_state::ServerState;
 use crate::streams::spreading::Unheard;
 use shared_log::LogName;
 use slots::SlotName;
-use std::sync::{MutexGuard, Wait};
+use std::sync::Wait;
 use std::time::Clock;
 use txlog::{Publisher, SessionFault};
 
@@ -27,7 +27,7 @@ impl<L: LogName + SlotName> ServerState<L> {
         let mut publisher = self.publisher.lock(rt);
         self.make_room(rt, &mut *publisher);
         let noted = noted(rt, &mut *publisher, prefix, content);
-        MutexGuard::unlock(publisher);
+        self.let_go(rt, publisher);
         let (start, unheard) = noted?;
         self.spread(rt, unheard);
         Ok(start)

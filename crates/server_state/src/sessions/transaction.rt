@@ -69,7 +69,7 @@ impl<L: LogName + SlotName> ServerState<L> {
                 spoilt: None,
             }),
             Err(fault) => {
-                MutexGuard::unlock(publisher);
+                self.let_go(rt, publisher);
                 Err(fault)
             }
         }
@@ -259,7 +259,7 @@ impl<'h, L: LogName + SlotName, R: Wait + Clock> Transaction<'h, L, R> {
             spoilt,
         } = self;
         let (answer, unheard) = ended(rt, &mut *publisher, tx, time, spoilt, done);
-        MutexGuard::unlock(publisher);
+        server_state.let_go(rt, publisher);
         if let Some(unheard) = unheard {
             server_state.spread(rt, unheard);
         }

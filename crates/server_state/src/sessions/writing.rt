@@ -47,7 +47,7 @@ impl<'h, L: LogName + SlotName, R: Wait + Clock> Writing<'h, L, R> {
             publisher,
         } = self;
         let unheard = unheard_of(left, publisher.end());
-        MutexGuard::unlock(publisher);
+        server_state.let_go(rt, publisher);
         if let Some(unheard) = unheard {
             server_state.spread(rt, unheard);
         }

@@ -6,8 +6,8 @@ use pqformat::Text;
 use shared_log::LogName;
 use slots::SlotName;
 use std::alloc::{AllocError, Global};
+use std::sync::Wait;
 use std::sync::atomic::Ordering;
-use std::sync::{MutexGuard, Wait};
 use std::time::{Clock, Duration};
 use txlog::kept_place;
 
@@ -61,7 +61,7 @@ impl<L: LogName + SlotName> ServerState<L> {
     /// What is served now. The parts are looked at one after the other, so connections may have gone on in between. `AllocError`
     /// where memory for it is refused.
     pub fn status<R: Wait + Clock>(&self, rt: &R) -> Result<HubStatus, AllocError> {
-        let size = self.log_size(rt);
+        let size = *self.log_size.lock(rt);
         Ok(HubStatus {
             connections: self.served.load(Ordering::SeqCst),
             streams_begun: self.streams_begun.load(Ordering::SeqCst),
@@ -70,17 +70,6 @@ impl<L: LogName + SlotName> ServerState<L> {
             capacity: self.settings.capacity,
             slots: self.slot_statuses(rt, size.count)?,
         })
-    }
-
-    fn log_size<R: Wait>(&self, rt: &R) -> LogSize {
-        let publisher = self.publisher.lock(rt);
-        let size = LogSize {
-            end: publisher.end(),
-            count: publisher.count(),
-            kept: publisher.kept(),
-        };
-        MutexGuard::unlock(publisher);
-        size
     }
 
     /// The slots, beside a log of so many records.
@@ -130,16 +119,6 @@ impl<L: LogName + SlotName> ServerState<L> {
             None => 0,
         }
     }
-}
-
-/// The log at one moment.
-#[derive(Clone, Copy)]
-struct LogSize {
-    /// The position where it ends.
-    end: u64,
-    /// How many records it has had, and how many of them are kept.
-    count: usize,
-    kept: usize,
 }
 
 /// What the clock tells of a slot at one moment.

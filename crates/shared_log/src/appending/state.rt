@@ -6,7 +6,7 @@ ghost use Rattle.wal.specs.Log.{IsWellFormedLog, end_of, size_of};
 ghost use Rattle.wal.specs.Records.{record_after};
 ghost use Rattle.wal.specs.Restart.{oldest};
 ghost use Rattle.wal.specs.declared.record.TheConstants.{FIRST_POSITION};
-ghost use Rattle.shared_log.specs.Fronts.{ends_confirmed, settled_records};
+ghost use Rattle.shared_log.specs.SeenPrefixes.{ends_confirmed, settled_records};
 ghost use Rattle.shared_log.specs.Openings.{owner_of};
 ghost use Rattle.shared_log.specs.Writing.{IsOffered, IsOutline, IsPut};
 ghost use Rattle.shared_log.specs.declared.histories.entry.Entry.TheVariants.{Confirmed, Offered};
@@ -14,11 +14,11 @@ ghost use Rattle.shared_log.specs.declared.histories.entry.Entry.TheVariants.{Co
 use crate::appending::openings::Openings;
 use crate::appending::outline::Outline;
 use crate::appending::receipt::Receipt;
-use crate::histories::copy::Put;
-use crate::histories::front::Front;
+use crate::histories::copy::PutRecord;
+use crate::histories::empty_history::EmptyHistory;
 use crate::histories::history::History;
 use crate::histories::name::LogName;
-use crate::histories::opened::Opened;
+use crate::histories::seen_prefix::SeenPrefix;
 use std::alloc::{AllocError, Global};
 use std::marker::Model;
 use std::sync::{Arc, Wait};
@@ -33,9 +33,9 @@ pub(crate) struct LogState<L: LogName> {
     alloc: Global,
     history: History<L>,
     /// The history with all that was offered.
-    front: Front<L>,
+    front: SeenPrefix<L>,
     /// The history up to the record that was confirmed last.
-    sure: Front<L>,
+    sure: SeenPrefix<L>,
     count: usize,
     end: u64,
     /// The transactions in progress, by which each record is told where to begin after it.
@@ -56,7 +56,7 @@ impl<L: LogName> Model for LogState<L> {
 
 impl<L: LogName> LogState<L> {
     /// Of an empty log.
-    pub fn open(alloc: Global, opened: Opened) -> Result<Self, AllocError>
+    pub fn open(alloc: Global, opened: EmptyHistory) -> Result<Self, AllocError>
         requires { opened.seen.book ≡ L.book }
         ensures { IfOk result (λ state. state ≡ []) }
     {
@@ -73,14 +73,14 @@ impl<L: LogName> LogState<L> {
         })
     }
 
-    pub fn front(&self) -> &Front<L>
+    pub fn front(&self) -> &SeenPrefix<L>
         ensures { result.now ≡ self.now }
     {
         &self.front
     }
 
     /// The history up to the record that was confirmed last.
-    pub fn sure(&self) -> &Front<L>
+    pub fn sure(&self) -> &SeenPrefix<L>
         ensures alike { settled_records result.now ≡ settled_records self.now }
         ensures ends { ends_confirmed result.now ≡ true }
     {
@@ -140,7 +140,7 @@ impl<L: LogName> LogState<L> {
         entry: Arc<Record>,
         outline: Outline,
         edge: usize,
-    ) -> Result<Put, AllocError>
+    ) -> Result<PutRecord, AllocError>
         requires { IsOutline (settled_records self.old) (arc_value entry) outline }
         ensures put { IfOk result
             (λ put. IsPut L.book (settled_records self.old) (arc_value entry) self.new put) }
@@ -158,7 +158,7 @@ impl<L: LogName> LogState<L> {
         let restart = self
             .openings
             .restart_after(outline.top, outline.is_last, self.count);
-        let put = Put {
+        let put = PutRecord {
             place: self.count,
             entry,
             restart,
@@ -193,7 +193,11 @@ impl<L: LogName> LogState<L> {
 }
 
 /// The front with a confirmation. Nobody but the writer makes the history longer, so it is never refused; no contract knows.
-fn confirmed<L: LogName, R: Wait>(rt: &R, history: &History<L>, front: Front<L>) -> Front<L>
+fn confirmed<L: LogName, R: Wait>(
+    rt: &R,
+    history: &History<L>,
+    front: SeenPrefix<L>,
+) -> SeenPrefix<L>
     requires room { length front < 2 ^ 62 }
     ensures value { result ≡ front ++ Confirmed ∷ [] }
     ensures ends { ends_confirmed result ≡ true }

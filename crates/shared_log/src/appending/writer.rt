@@ -7,7 +7,7 @@ ghost use Rattle.wal.specs.Records.{record_after};
 ghost use Rattle.wal.specs.declared.record.TheConstants.{FIRST_POSITION};
 ghost use Rattle.std.specs.Arc.{arc_value};
 ghost use Rattle.std.specs.List.{AllByRecursion};
-ghost use Rattle.shared_log.specs.Fronts.{ends_confirmed, settled_records};
+ghost use Rattle.shared_log.specs.SeenPrefixes.{ends_confirmed, settled_records};
 ghost use Rattle.shared_log.specs.Openings.{owner_of};
 ghost use Rattle.shared_log.specs.Telling.{TellsOf};
 ghost use Rattle.shared_log.specs.Writing.{IsEmptyCopy, IsOutline, after_giving};
@@ -17,12 +17,12 @@ use crate::appending::outline::Outline;
 use crate::appending::receipt::Receipt;
 use crate::appending::state::LogState;
 use crate::following::reader::LogReader;
-use crate::histories::copy::{LogCopy, Put};
-use crate::histories::front::Front;
+use crate::histories::copy::{LogCopy, PutRecord};
+use crate::histories::empty_history::EmptyHistory;
 use crate::histories::mark::Mark;
 use crate::histories::name::LogName;
-use crate::histories::opened::Opened;
-use crate::histories::rule::{Published, Sees, View};
+use crate::histories::rule::{LogProtocol, Sees, View};
+use crate::histories::seen_prefix::SeenPrefix;
 use core::mem;
 use left_right::writer::Writer;
 use std::alloc::{AllocError, Global};
@@ -35,7 +35,7 @@ use wal::{Body, LoggedChange, Record};
 ///
 /// It isn't `Drop`: `close` ends it.
 pub struct LogWriter<L: LogName> {
-    writer: Writer<LogCopy, Put, View, Published<L>>,
+    writer: Writer<LogCopy, PutRecord, View, LogProtocol<L>>,
     state: LogState<L>,
     /// Where the copies begin that have all that was published or waits.
     edge: usize,
@@ -44,7 +44,7 @@ pub struct LogWriter<L: LogName> {
 
 impl<L: LogName> Model for LogWriter<L> {
     ghost use Rattle.std.specs.Prelude.{drop};
-    ghost use Rattle.shared_log.specs.Fronts.{settled_records};
+    ghost use Rattle.shared_log.specs.SeenPrefixes.{settled_records};
     ghost use Rattle.shared_log.specs.Kept.{kept_in};
     ghost use Rattle.shared_log.specs.Writing.{Shows, Written};
 
@@ -65,7 +65,7 @@ impl<L: LogName> LogWriter<L> {
     pub fn open<R: Wait>(
         rt: &R,
         alloc: Global,
-        opened: Opened,
+        opened: EmptyHistory,
         records: usize,
         readers: usize,
     ) -> Result<(Self, Vec<LogReader<L>>), AllocError>
@@ -138,7 +138,7 @@ impl<L: LogName> LogWriter<L> {
         self.state.count()
     }
 
-    /// Ends the log. It waits for readers that are in it; later fetches are E1.
+    /// Ends the log. It waits for readers that are in it; later fetches are `NoEntry` (E1).
     pub fn close<R: Wait>(self, rt: &R) {
         let LogWriter {
             writer,
@@ -310,10 +310,16 @@ impl<L: LogName> LogWriter<L> {
 fn copies_of<L: LogName, R: Wait>(
     rt: &R,
     alloc: Global,
-    front: &Front<L>,
+    front: &SeenPrefix<L>,
     records: usize,
     readers: usize,
-) -> Result<(Writer<LogCopy, Put, View, Published<L>>, Vec<LogReader<L>>), AllocError>
+) -> Result<
+    (
+        Writer<LogCopy, PutRecord, View, LogProtocol<L>>,
+        Vec<LogReader<L>>,
+    ),
+    AllocError,
+>
     requires fresh { front.now ≡ [] }
     requires some { 0 < readers }
     requires few { readers ≤ 2048 }
@@ -340,7 +346,7 @@ fn writer_of<L: LogName>(
     records: usize,
     mark: &Mark,
     readers: usize,
-) -> Result<Writer<LogCopy, Put, View, Published<L>>, AllocError>
+) -> Result<Writer<LogCopy, PutRecord, View, LogProtocol<L>>, AllocError>
     requires fresh { (mark.now.seen.log ≡ []) × (mark.now.seen.book ≡ L.book) }
     requires some { 0 < readers }
     requires few { readers ≤ 2048 }
@@ -356,8 +362,8 @@ fn writer_of<L: LogName>(
 /// As many readers of a new log.
 fn readers_of<L: LogName>(
     alloc: Global,
-    writer: &Writer<LogCopy, Put, View, Published<L>>,
-    front: &Front<L>,
+    writer: &Writer<LogCopy, PutRecord, View, LogProtocol<L>>,
+    front: &SeenPrefix<L>,
     count: usize,
 ) -> Result<Vec<LogReader<L>>, AllocError>
     requires fresh { ends_confirmed front.now ≡ true }

@@ -4,16 +4,16 @@ ghost use Rattle.std.specs.Prelude.{◌≡◌, ◌+◌, ◌<◌, ◌≤◌, ◌^
 ghost use mathlib.Core.List.{IsPrefix};
 ghost use Rattle.wal.specs.Log.{IsWellFormedLog};
 ghost use Rattle.wal.specs.Records.{shared_records};
-ghost use Rattle.shared_log.specs.Fronts.{ends_confirmed, settled_records, shown_records};
+ghost use Rattle.shared_log.specs.SeenPrefixes.{ends_confirmed, settled_records, shown_records};
 ghost use Rattle.shared_log.specs.Kept.{LiesFrom, kept_in, records_in};
 ghost use Rattle.shared_log.specs.Removed.{IsUnread};
 
 use crate::appending::receipt::Receipt;
 use crate::fault::ReadFault;
 use crate::histories::copy::{LogCopy, Logged};
-use crate::histories::front::Front;
 use crate::histories::name::LogName;
-use crate::histories::rule::{Published, Sees, View};
+use crate::histories::rule::{LogProtocol, Sees, View};
+use crate::histories::seen_prefix::SeenPrefix;
 use core::mem;
 use left_right::reader::Reader;
 use std::alloc::{AllocError, Global};
@@ -24,11 +24,11 @@ use wal::Record;
 /// Reads the log from a place on. It takes no lock and waits for nobody.
 #[derive(Drop)]
 pub struct LogReader<L: LogName> {
-    pub(crate) reader: Reader<LogCopy, View, Published<L>>,
+    pub(crate) reader: Reader<LogCopy, View, LogProtocol<L>>,
     /// The place of the next record to fetch.
     pub(crate) place: usize,
     /// What it was told of the history.
-    pub(crate) told: Front<L>,
+    pub(crate) told: SeenPrefix<L>,
     ghost ends: { ends_confirmed told ≡ true },
 }
 
@@ -84,7 +84,7 @@ impl<L: LogName> LogReader<L> {
     }
 
     /// What it is made of, since the log is entered with the reader alone.
-    pub(crate) fn into_parts(self) -> (Reader<LogCopy, View, Published<L>>, usize, Front<L>)
+    pub(crate) fn into_parts(self) -> (Reader<LogCopy, View, LogProtocol<L>>, usize, SeenPrefix<L>)
         ensures parts { result ≡ (self.reader, self.place, self.told) }
         ensures ends { ends_confirmed result.2 ≡ true }
     {
@@ -97,9 +97,9 @@ impl<L: LogName> LogReader<L> {
     }
 
     pub(crate) fn of(
-        reader: Reader<LogCopy, View, Published<L>>,
+        reader: Reader<LogCopy, View, LogProtocol<L>>,
         place: usize,
-        told: Front<L>,
+        told: SeenPrefix<L>,
     ) -> Self
         requires ends { ends_confirmed told ≡ true }
         ensures parts { (result.reader ≡ reader) × (result.place ≡ place) × (result.told ≡ told) }

@@ -5,7 +5,7 @@ ghost use mathlib.Core.List.{IsPrefix};
 ghost use Rattle.wal.specs.Log.{IsWellFormedLog, end_of};
 ghost use Rattle.wal.specs.Restart.{oldest, place_from, restart, restart_place};
 ghost use Rattle.wal.specs.declared.record.TheConstants.{FIRST_POSITION};
-ghost use Rattle.shared_log.specs.Fronts.{settled_records, shown_records};
+ghost use Rattle.shared_log.specs.SeenPrefixes.{settled_records, shown_records};
 ghost use Rattle.shared_log.specs.Kept.{LiesFrom, kept_in, records_in};
 ghost use Rattle.shared_log.specs.Removed.{NeedsRemoved};
 

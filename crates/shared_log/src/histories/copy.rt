@@ -37,7 +37,7 @@ pub struct LogCopy {
 /// A record enters the log at a place, so one that stands there and was never confirmed gives way. Those before `edge` are given
 /// back.
 #[derive(Drop)]
-pub struct Put {
+pub struct PutRecord {
     pub(crate) place: usize,
     pub(crate) entry: Arc<Record>,
     pub(crate) restart: usize,
@@ -82,7 +82,7 @@ impl LogCopy {
     }
 }
 
-impl Absorb<Put> for LogCopy {
+impl Absorb<PutRecord> for LogCopy {
     // A clause reads an array as a list, of any length.
     type State = (Edge, [(Record, usize); 0], Seen<Entry, u64, Law>);
 
@@ -97,7 +97,7 @@ impl Absorb<Put> for LogCopy {
       put.mark.seen,
     ) };
 
-    fn absorb_first(&mut self, operation: &Put, _other: &LogCopy) -> Result<(), AllocError> {
+    fn absorb_first(&mut self, operation: &PutRecord, _other: &LogCopy) -> Result<(), AllocError> {
         self.records.reserve(1)?;
         let entry = Arc::try_clone(&operation.entry)?;
         self.make_way(operation.place, operation.edge);
@@ -109,12 +109,12 @@ impl Absorb<Put> for LogCopy {
         Ok(())
     }
 
-    fn absorb_second(&mut self, operation: Put, _other: &LogCopy) -> Result<(), Put> {
+    fn absorb_second(&mut self, operation: PutRecord, _other: &LogCopy) -> Result<(), PutRecord> {
         match self.records.reserve(1) {
             Ok(()) => {}
             Err(_) => return Err(operation),
         }
-        let Put {
+        let PutRecord {
             place,
             entry,
             restart,

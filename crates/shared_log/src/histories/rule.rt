@@ -14,12 +14,12 @@ pub struct View {
 }
 
 /// The rule of a log's readers and its writer.
-pub struct Published<L> {
+pub struct LogProtocol<L> {
     of: PhantomData<L>,
 }
 
-impl<L: LogName> Protocol<LogCopy, View> for Published<L> {
-    ghost use Rattle.shared_log.specs.Fronts.{shown_records};
+impl<L: LogName> Protocol<LogCopy, View> for LogProtocol<L> {
+    ghost use Rattle.shared_log.specs.SeenPrefixes.{shown_records};
     ghost use Rattle.shared_log.specs.Kept.{kept_in};
     ghost use Rattle.shared_log.specs.Sharing.{Keeps, newcomer};
 
@@ -35,7 +35,7 @@ pub(crate) struct Sees<L> {
 }
 
 impl<L: LogName> Outcome<LogCopy, View> for Sees<L> {
-    ghost use Rattle.shared_log.specs.Fronts.{shown_records};
+    ghost use Rattle.shared_log.specs.SeenPrefixes.{shown_records};
     ghost use Rattle.shared_log.specs.Kept.{kept_in};
     ghost use Rattle.shared_log.specs.Sharing.{Saw};
 

@@ -21,7 +21,7 @@ pub struct SlotStep {
 }
 
 /// A seat's view: its number, how many seats there are (which seat 0 alone knows; the others say 0), and its steps in order.
-pub struct View {
+pub struct SeatView {
     pub number: u64,
     pub seats: u64,
     pub steps: LinkedList<SlotStep>,

@@ -20,12 +20,12 @@ const TABLE_TAG: u8 = 255;
 
 /// The text of a place, made without memory. Contracts see the text.
 #[derive(Drop)]
-pub struct Place {
+pub struct PlaceKey {
     bytes: [u8; MAX_KEY_LENGTH],
     len: usize,
 }
 
-impl Model for Place {
+impl Model for PlaceKey {
     ghost use Rattle.std.specs.Prelude.{List, ℕ, ◌≤◌, take};
     ghost use Rattle.store.specs.declared.places.key.TheConstants.{MAX_KEY_LENGTH};
 
@@ -36,11 +36,11 @@ impl Model for Place {
     ghost invariant = { λ p. p.len ≤ MAX_KEY_LENGTH };
 }
 
-impl Place {
+impl PlaceKey {
     fn new() -> Self
         ensures { result ≡ [] }
     {
-        Place {
+        PlaceKey {
             bytes: [0; MAX_KEY_LENGTH],
             len: 0,
         }
@@ -79,7 +79,7 @@ impl Place {
     pub fn of_table(oid: u32) -> Self
         ensures { result ≡ table_place oid }
     {
-        let mut place = Place::new();
+        let mut place = PlaceKey::new();
         place.push_int32(oid);
         place.push(TABLE_TAG);
         place
@@ -93,7 +93,7 @@ impl Place {
             (λ place. place ≡ key_text (record { oid = oid; values = key.now })) }
     {
         match key.coded_len() {
-            Some(_) => Some(Place::of_short_key(oid, key)),
+            Some(_) => Some(PlaceKey::of_short_key(oid, key)),
             None => None,
         }
     }
@@ -103,7 +103,7 @@ impl Place {
         requires { row_length key.now ≤ MAX_ROW_LENGTH }
         ensures { result ≡ key_text (record { oid = oid; values = key.now }) }
     {
-        let mut place = Place::new();
+        let mut place = PlaceKey::new();
         place.push_int32(oid);
         for value in key.values() {
             place.push_value(value);
@@ -120,7 +120,7 @@ impl Place {
             ≡ key_text (record { oid = oid; values = key_values columns.now row.now }) }
     {
         let values = row.values();
-        let mut place = Place::new();
+        let mut place = PlaceKey::new();
         place.push_int32(oid);
         for (i, column) in columns.iter().enumerate() {
             if !column.is_key {

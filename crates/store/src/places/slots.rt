@@ -10,7 +10,7 @@ ghost use Rattle.store.specs.Slots.{AreUsed, CanUndo, is_used, same_key, slot_at
 
 use crate::journals::Journal;
 use crate::places::key::{MAX_KEY_LENGTH, is_within};
-use crate::places::slot::{Slot, Undo};
+use crate::places::stored_place::{StoredPlace, Undo};
 use indexmap::IndexMap;
 use pqformat::Items;
 use std::alloc::{AllocError, Global};
@@ -21,7 +21,7 @@ use tables::Row;
 /// with their slots.
 #[derive(Drop)]
 pub struct Slots {
-    by_place: IndexMap<Vec<u8>, Slot>,
+    by_place: IndexMap<Vec<u8>, StoredPlace>,
 }
 
 impl Model for Slots {
@@ -140,14 +140,14 @@ impl Slots {
     }
 
     /// Puts a slot at a place, and answers what stood there. Without memory nothing changes.
-    fn swap(&mut self, place: Vec<u8>, slot: Slot) -> Result<Slot, AllocError>
+    fn swap(&mut self, place: Vec<u8>, slot: StoredPlace) -> Result<StoredPlace, AllocError>
         requires { is_used slot ≡ true }
         ensures ok { OnOk result (self.new ≡ slots_with place.items slot self.old) }
         ensures before { IfOk result (λ before. before ≡ slot_at self.old place.items) }
         ensures err { OnErr result (self.new ≡ self.old) }
     {
         match self.by_place.insert(place, slot) {
-            Ok(before) => Ok(before.unwrap_or(Slot::vacant())),
+            Ok(before) => Ok(before.unwrap_or(StoredPlace::vacant())),
             Err(_) => Err(AllocError),
         }
     }
@@ -215,7 +215,7 @@ impl Slots {
         let key = Items::new(Vec::from_slice(alloc, place)?);
         undos.reserve(1)?;
         let owner = Some(top);
-        let before = self.swap(name, Slot { row, owner })?;
+        let before = self.swap(name, StoredPlace { row, owner })?;
         undos.push_reserved(Undo { key, before });
         Ok(())
     }

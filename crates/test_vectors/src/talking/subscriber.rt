@@ -105,10 +105,10 @@ pub fn answer_status(alloc: Global, given: &str, answer: &mut String) -> Result<
     let (stream, rest) = given.split_once(' ').context("gives no clock")?;
     let (clock, asks) = rest.split_once(' ').context("says not whether it asks")?;
     let clock = clock.parse::<i64>().context("reading the clock")?;
-    add_status_behind(alloc, stream, clock, asks == "asks", answer)
+    add_status_after(alloc, stream, clock, asks == "asks", answer)
 }
 
-fn add_status_behind(
+fn add_status_after(
     alloc: Global,
     stream: &str,
     clock: i64,

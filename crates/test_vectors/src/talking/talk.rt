@@ -4,12 +4,12 @@ use crate::talking::scripted_backend::ScriptedBackend;
 use crate::wording::answer::bytes_of;
 use anyhow::{Context, Result};
 use bytes::BytesMut;
-use server::{ConnFault, Connection, Dialect, Phase, Service};
+use server::{ConnFault, Connection, ConnectionTerms, Dialect, Phase};
 use std::alloc::{AllocError, Global};
 
 /// A connection, its backend, and what was said to its client.
 #[derive(Drop)]
-struct Talk {
+struct Exchange {
     backend: ScriptedBackend,
     connection: Connection,
     said: BytesMut,
@@ -25,15 +25,15 @@ pub fn answer_talk(
     answer: &mut String,
 ) -> Result<()> {
     let number = 1;
-    let mut talk = Talk {
+    let mut talk = Exchange {
         backend: ScriptedBackend::new(alloc),
-        connection: Connection::served(alloc, Service { number, dialect }),
+        connection: Connection::served(alloc, ConnectionTerms { number, dialect }),
         said: BytesMut::new(alloc),
     };
     talk.add_all(alloc, given, answer)
 }
 
-impl Talk {
+impl Exchange {
     fn add_all(&mut self, alloc: Global, given: &str, answer: &mut String) -> Result<()> {
         self.add_pieces(alloc, given, answer)?;
         let asked = self.backend.asked().context("is not told whole")?;

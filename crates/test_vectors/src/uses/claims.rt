@@ -43,15 +43,15 @@ fn on_slots<R: Threads + Sync>(rt: &R, alloc: Global, threads: usize, turns: u32
 
 /// A thread's seat, and the place of its slot.
 #[derive(Drop)]
-struct User<L: SlotName> {
+struct SlotUser<L: SlotName> {
     seat: SlotSeat<L>,
     place: usize,
 }
 
-impl<L: SlotName> User<L> {
+impl<L: SlotName> SlotUser<L> {
     /// Claims and releases the slot.
     fn work(self, table: &SlotTable<L>, turns: u32) -> Result<(), SlotFault> {
-        let User { mut seat, place } = self;
+        let SlotUser { mut seat, place } = self;
         if place >= PLACES {
             return Err(SlotFault::NoPlace);
         }
@@ -88,7 +88,7 @@ fn side_by_side<L: SlotName + Send + Sync, R: Threads + Sync>(
     turns: u32,
 ) -> Result<()> {
     let users = users(alloc, table, seats)?;
-    let worked = map_vec(rt, users, &|user: User<L>| user.work(table, turns))?;
+    let worked = map_vec(rt, users, &|user: SlotUser<L>| user.work(table, turns))?;
     Ok(all(worked.as_slice())?)
 }
 
@@ -103,7 +103,7 @@ fn users<L: SlotName>(
     alloc: Global,
     table: &SlotTable<L>,
     seats: Vec<SlotSeat<L>>,
-) -> Result<Vec<User<L>>> {
+) -> Result<Vec<SlotUser<L>>> {
     let mut users = Vec::new(alloc);
     for seat in seats {
         users.push(user_at(table, seat)?)?;
@@ -111,9 +111,12 @@ fn users<L: SlotName>(
     Ok(users)
 }
 
-fn user_at<L: SlotName>(table: &SlotTable<L>, mut seat: SlotSeat<L>) -> Result<User<L>, SlotFault> {
+fn user_at<L: SlotName>(
+    table: &SlotTable<L>,
+    mut seat: SlotSeat<L>,
+) -> Result<SlotUser<L>, SlotFault> {
     let place = table.create(&mut seat, 0)?;
-    Ok(User { seat, place })
+    Ok(SlotUser { seat, place })
 }
 
 /// Each thread's word is so many words after the one before it.

@@ -10,7 +10,7 @@ use tables::{Row, Value};
 pub const ITEM: u32 = 16384;
 
 /// One table, and a publication of it.
-const CONFIGURATION: &str = "\
+pub const CONFIGURATION: &str = "\
 [[table]]
 oid = 16384
 schema = 'public'

@@ -11,11 +11,11 @@ use std::alloc::Global;
 use std::io::Print;
 use std::marker::Brand;
 use std::sync::Wait;
-use txlog::{Opened, Publisher};
+use txlog::{Publisher, PublisherParts};
 
 /// What is done with the log. One function opens and closes it for all.
 #[derive(Drop)]
-pub enum Work {
+pub enum LogTask {
     /// A session writes it, and what a sender makes of it is printed.
     Print,
     /// What calls that take no memory work on is made, and they too, if it says so.
@@ -23,11 +23,16 @@ pub enum Work {
 }
 
 /// Works on a log that has room for so many records, which are 1,000 at most.
-pub fn work_on_log<R: Wait + Print>(rt: &R, alloc: Global, room: usize, work: &Work) -> Result<()>
+pub fn work_on_log<R: Wait + Print>(
+    rt: &R,
+    alloc: Global,
+    room: usize,
+    work: &LogTask,
+) -> Result<()>
     requires some { 1 ≤ room }
     requires few { room ≤ 1000 }
 {
-    let opened = Opened::new(alloc, configured(alloc)?, room, 1)?;
+    let opened = PublisherParts::new(alloc, configured(alloc)?, room, 1)?;
     over_log::<Brand, R>(rt, alloc, opened, work)
 }
 
@@ -35,8 +40,8 @@ pub fn work_on_log<R: Wait + Print>(rt: &R, alloc: Global, room: usize, work: &W
 fn over_log<L: LogName, R: Wait + Print>(
     rt: &R,
     alloc: Global,
-    opened: Opened,
-    work: &Work,
+    opened: PublisherParts,
+    work: &LogTask,
 ) -> Result<()>
     requires { opened.history.seen.book ≡ L.book }
 {
@@ -51,13 +56,13 @@ fn by_reader<L: LogName, R: Wait + Print>(
     alloc: Global,
     publisher: &mut Publisher<L>,
     readers: &mut [LogReader<L>],
-    work: &Work,
+    work: &LogTask,
 ) -> Result<()> {
     let [reader] = readers else {
         bail!("a log has a reader");
     };
     match work {
-        Work::Print => print_session(rt, alloc, publisher, reader),
-        Work::Call(is_called) => call_of_log(rt, alloc, publisher, reader, *is_called),
+        LogTask::Print => print_session(rt, alloc, publisher, reader),
+        LogTask::Call(is_called) => call_of_log(rt, alloc, publisher, reader, *is_called),
     }
 }

@@ -1,7 +1,7 @@
 //! The shortest use of the crates: a session writes the log, and a sender makes the bytes that a subscriber gets of it.
 
 use crate::uses::items::{ITEM, item, selection_of_p};
-use crate::uses::own_log::{Work, work_on_log};
+use crate::uses::own_log::{LogTask, work_on_log};
 use crate::uses::print_bytes;
 use anyhow::Result;
 use bytes::BytesMut;
@@ -20,7 +20,7 @@ const CHUNKS: usize = 64;
 
 /// Prints what a subscriber gets of a publisher of the configured table, whose log has room for 1,000 records.
 pub fn print_stream<R: Wait + Print>(rt: &R, alloc: Global) -> Result<()> {
-    work_on_log(rt, alloc, 1000, &Work::Print)
+    work_on_log(rt, alloc, 1000, &LogTask::Print)
 }
 
 pub fn print_session<L: LogName, R: Wait + Print>(

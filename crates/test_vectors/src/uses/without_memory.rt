@@ -8,7 +8,7 @@ mod places;
 mod strands;
 mod wire;
 
-use crate::uses::own_log::{Work, work_on_log};
+use crate::uses::own_log::{LogTask, work_on_log};
 use anyhow::{Result, bail, ensure};
 pub use log::call_of_log;
 use std::alloc::Global;
@@ -28,7 +28,7 @@ pub fn call_without_memory<R: Wait + Print>(rt: &R, alloc: Global, words: &[Stri
         "arena" => strands::work(alloc, is_called),
         "store" => changes::work(alloc, is_called),
         "slots" => places::work(alloc, is_called),
-        "log" => work_on_log(rt, alloc, 100, &Work::Call(is_called)),
+        "log" => work_on_log(rt, alloc, 100, &LogTask::Call(is_called)),
         "wire" => wire::work(alloc, is_called),
         "filter" => judged::judge(alloc, is_called),
         "message" => judged::put(alloc, is_called),

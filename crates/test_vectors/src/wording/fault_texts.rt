@@ -7,12 +7,13 @@ use pgoutput::PgoutputError;
 use publication::PubFault;
 use reorder::ReorderFault;
 use rowfilter::FilterFault;
-use schedule::{Answer, WorldFault};
+use schedule::WorldFault;
 use slots::SlotFault;
 use std::fmt::{Debug, Display};
 use tables::BodyFault;
 use txlog::SessionFault;
 use walsender::SendFault;
+use world::Answer;
 
 const FRAME_FAULTS: [FrameFault; 7] = [
     FrameFault::BadLength,

@@ -1,7 +1,7 @@
 //! What a commit answers.
 
 ghost use Rattle.std.specs.Prelude.{◌≡◌, true};
-ghost use Rattle.shared_log.specs.Fronts.{settled_records};
+ghost use Rattle.shared_log.specs.SeenPrefixes.{settled_records};
 ghost use Rattle.txlog.specs.Receipts.{has_commit};
 
 use shared_log::LogName;
@@ -17,7 +17,7 @@ pub struct Receipt<L: LogName> {
 
 impl<L: LogName> Model for Receipt<L> {
     ghost use Rattle.std.specs.Prelude.{◌≡◌, true};
-    ghost use Rattle.shared_log.specs.Fronts.{settled_records};
+    ghost use Rattle.shared_log.specs.SeenPrefixes.{settled_records};
     ghost use Rattle.txlog.specs.Receipts.{Committed, has_commit};
 
     ghost Value = { Committed };

@@ -8,7 +8,7 @@ ghost use Rattle.pgoutput.specs.Items.{FitsPublished};
 ghost use Rattle.tables.specs.declared.changes.change.Change.{Change};
 ghost use Rattle.wal.specs.declared.record.Body.TheVariants.{Change as Changed};
 ghost use Rattle.reorder.specs.Ready.{IsReadyIn, ready_entries};
-ghost use Rattle.reorder.specs.declared.ready.Step.TheVariants as steps;
+ghost use Rattle.reorder.specs.declared.ready.RecordOutcome.TheVariants as steps;
 ghost use Rattle.reorder.specs.Settled.{AreLentIn, ready_chunks};
 ghost use Rattle.reorder.specs.Taking.{ReorderState, readied_changes};
 ghost use Rattle.walsender.specs.Published.{published_changes, published_note, published_with};
@@ -21,7 +21,7 @@ ghost use Rattle.walsender.specs.Outgoing.{Grows, IsOutgoing, StaysTaken, StaysT
 use crate::commit_frames::header::Header;
 use crate::held::outgoing::Outgoing;
 use publication::{MAX_MESSAGE_LENGTH, Selection, room_for};
-use reorder::{CommittedChanges, Reorder, Step};
+use reorder::{CommittedChanges, RecordOutcome, Reorder};
 use std::alloc::AllocError;
 use wal::{Body, LoggedChange, Record};
 
@@ -33,7 +33,7 @@ impl Outgoing {
         start: u64,
         reorder: &mut Reorder,
         next: &Record,
-        step: Step,
+        step: RecordOutcome,
         clock: i64,
         room: &mut Vec<u8>,
     ) -> Result<(), AllocError>
@@ -62,8 +62,10 @@ impl Outgoing {
             step ≡ steps.Quiet → IsOk result }
     {
         match step {
-            Step::Quiet => self.add_note(selection, start, next, clock, room),
-            Step::Ready(ready) => { self.publish(selection, start, reorder, next, ready, clock) }
+            RecordOutcome::Quiet => self.add_note(selection, start, next, clock, room),
+            RecordOutcome::Ready(ready) => {
+                self.publish(selection, start, reorder, next, ready, clock)
+            }
         }
     }
 

@@ -5,7 +5,7 @@ ghost use Rattle.std.specs.Io.KnownBytes.{Appends};
 ghost use mathlib.Core.List.{IsPrefix};
 ghost use Rattle.std.specs.declared.io.Error.{Error};
 ghost use Rattle.wal.specs.Log.{IsWellFormedLog};
-ghost use Rattle.shared_log.specs.Fronts.{settled_records};
+ghost use Rattle.shared_log.specs.SeenPrefixes.{settled_records};
 ghost use Rattle.shared_log.specs.Readers.{HasSeen, seen_of};
 ghost use Rattle.shared_log.specs.declared.fault.ReadFault.{ReadFault};
 ghost use Rattle.walsender.specs.declared.fault.SendFault.{SendFault};
@@ -122,8 +122,8 @@ impl Outgoing {
     }
 }
 
-/// Writes the bytes, and answers how many the writer took.
-fn write_front<W: Write>(out: &mut W, bytes: &[u8]) -> (usize, io::Result<()>)
+/// Writes the bytes, and answers how many the writer took: fewer than all where it fails, or takes none (`WriteZero`).
+pub fn write_front<W: Write>(out: &mut W, bytes: &[u8]) -> (usize, io::Result<()>)
     ensures within { result.0 ≤ length bytes.now }
     ensures taken { Appends (W.contents out.old) (W.contents out.new) (take result.0 bytes.now) }
     ensures ok { OnOk result.1 (result.0 ≡ length bytes.now) }

@@ -6,9 +6,10 @@ ghost use Rattle.world.specs.Machine.{IsMachine, world_of};
 ghost use Rattle.world.specs.Starts.{start_state};
 
 use crate::machine::Machine;
+use crate::printed::answer::Answer;
 use crate::reading::kept_place;
 use crate::stepping::start::Start;
-use schedule::{Answer, WorldFault};
+use schedule::WorldFault;
 use shared_log::LogName;
 use slots::{Slot, SlotName};
 

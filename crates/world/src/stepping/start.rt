@@ -8,13 +8,14 @@ ghost use Rattle.world.specs.Start.{is_open_for, running_count};
 ghost use Rattle.world.specs.Acting.{Acts, answer_of, is_read, new_start, takes_memory};
 ghost use Rattle.world.specs.Starts.{IsServed, is_open, seen_at, start_state};
 
+use crate::printed::answer::Answer;
 use crate::reading::read_on;
 use crate::stepping::action::Action;
 use bytes::BytesMut;
 use chgarena::Arena;
 use pqformat::Text;
 use publication::Selection;
-use schedule::{Answer, WorldFault};
+use schedule::WorldFault;
 use shared_log::{LogName, LogReader, ReadFault};
 use std::alloc::Global;
 use std::mem;
@@ -26,12 +27,12 @@ use walsender::{Ended, SendFault, Walsender};
 pub struct Start<L: LogName> {
     pub(crate) connection: Text,
     pub(crate) produced: BytesMut,
-    pub(crate) stage: Stage<L>,
+    pub(crate) stage: StartStage<L>,
 }
 
 /// The walsender, or what is left of it.
 #[derive(Drop)]
-pub(crate) enum Stage<L: LogName> {
+pub(crate) enum StartStage<L: LogName> {
     Open(Walsender<L>),
     Cut(Ended),
 }
@@ -54,7 +55,9 @@ impl<L: LogName> Start<L> {
         Start {
             connection,
             produced: BytesMut::new(alloc),
-            stage: Stage::Open(Walsender::begin(alloc, reader, selection, position, first, arena)),
+            stage: StartStage::Open(Walsender::begin(
+                alloc, reader, selection, position, first, arena,
+            )),
         }
     }
 
@@ -77,8 +80,8 @@ impl<L: LogName> Start<L> {
         ensures { result ≡ (start_state self.now).position }
     {
         match &self.stage {
-            Stage::Open(walsender) => walsender.position(),
-            Stage::Cut(ended) => ended.position,
+            StartStage::Open(walsender) => walsender.position(),
+            StartStage::Cut(ended) => ended.position,
         }
     }
 
@@ -86,14 +89,15 @@ impl<L: LogName> Start<L> {
     pub(crate) fn is_open(&self) -> bool
         ensures { result ≡ (start_state self.now).is_open }
     {
-        matches!(&self.stage, Stage::Open(_))
+        matches!(&self.stage, StartStage::Open(_))
     }
 
     /// Whether this is an open start of the connection.
     pub fn is_open_for(&self, connection: &Text) -> bool
         ensures { result ≡ is_open_for connection.now (start_state self.now) }
     {
-        self.connection.as_str() == connection.as_str() && matches!(&self.stage, Stage::Open(_))
+        self.connection.as_str() == connection.as_str()
+            && matches!(&self.stage, StartStage::Open(_))
     }
 
     /// Does what a line asks of the sender. It is open; where it is cut, its reader goes back to the others. `Memory` (V2), and
@@ -148,7 +152,7 @@ impl<L: LogName> Start<L> {
         ensures same { publisher.new ≡ publisher.old }
         ensures opened { is_open self.new.stage ≡ true }
     {
-        let Stage::Open(walsender) = &mut self.stage else {
+        let StartStage::Open(walsender) = &mut self.stage else {
             unreachable!();
         };
         match read_on(alloc, publisher, walsender, max as usize, clock) {
@@ -165,7 +169,7 @@ impl<L: LogName> Start<L> {
         ensures served { IsServed publisher.now.log self.new }
         ensures opened { is_open self.new.stage ≡ true }
     {
-        let Stage::Open(walsender) = &mut self.stage else {
+        let StartStage::Open(walsender) = &mut self.stage else {
             unreachable!();
         };
         answer_of(walsender.keepalive(clock, false))
@@ -183,7 +187,7 @@ impl<L: LogName> Start<L> {
         ensures served { IsServed publisher.now.log self.new }
         ensures opened { is_open self.new.stage ≡ true }
     {
-        let Stage::Open(walsender) = &mut self.stage else {
+        let StartStage::Open(walsender) = &mut self.stage else {
             unreachable!();
         };
         walsender.drain_into(max as usize, &mut self.produced)?;
@@ -208,13 +212,13 @@ impl<L: LogName> Start<L> {
         ensures capacity { vec_capacity readers.new ≡ vec_capacity readers.old }
     {
         let walsender = match mem::replace(&mut self.stage, nothing(alloc)) {
-            Stage::Open(walsender) => walsender,
-            Stage::Cut(_) => unreachable!(),
+            StartStage::Open(walsender) => walsender,
+            StartStage::Cut(_) => unreachable!(),
         };
         let (ended, reader) = walsender.end();
         readers.push_reserved(reader);
         // (an assignment does the same, and takes longer to prove)
-        drop(mem::replace(&mut self.stage, Stage::Cut(ended)));
+        drop(mem::replace(&mut self.stage, StartStage::Cut(ended)));
         Answer::Done
     }
 }
@@ -242,8 +246,8 @@ fn fault_of(fault: ReadFault) -> WorldFault
 }
 
 /// What stands in the place of a walsender while it ends.
-fn nothing<L: LogName>(alloc: Global) -> Stage<L> {
-    Stage::Cut(Ended {
+fn nothing<L: LogName>(alloc: Global) -> StartStage<L> {
+    StartStage::Cut(Ended {
         selection: Selection::empty(alloc),
         start: 0,
         position: 0,

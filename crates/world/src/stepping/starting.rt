@@ -10,13 +10,14 @@ ghost use Rattle.world.specs.Starting.{IsStartWith, Told, world_after_start_with
 ghost use Rattle.world.specs.Machine.{HasRoom, IsMachine, IsResumed, subscriber_state, world_of};
 
 use crate::machine::Machine;
+use crate::printed::answer::Answer;
 use crate::reading::resume;
 use crate::stepping::start::Start;
 use crate::subscriber::{Subscriber, subscribe};
 use chgarena::Arena;
 use pqformat::Text;
 use publication::{PubFault, Publications, Selection};
-use schedule::{Answer, StartOptions, WorldFault};
+use schedule::{StartOptions, WorldFault};
 use shared_log::{LogName, ReadFault};
 use slots::{HeldSlots, SlotFault, SlotName, is_held, is_missing, slot_named, start_from, take};
 use std::alloc::{AllocError, Global};

@@ -6,9 +6,10 @@ ghost use Rattle.world.specs.Slots.{Acknowledges, Creates, PutsBack, has_status,
 ghost use Rattle.world.specs.Machine.{IsMachine, world_of};
 
 use crate::machine::Machine;
+use crate::printed::answer::Answer;
 use crate::subscriber::has_status;
 use pqformat::Text;
-use schedule::{Answer, WorldFault};
+use schedule::WorldFault;
 use shared_log::LogName;
 use slots::{SlotName, confirm};
 

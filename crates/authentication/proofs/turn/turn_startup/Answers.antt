@@ -1,5 +1,5 @@
 use Rattle.std.proofs.Common.{◌≡◌, sym, subst}
-use Rattle.authentication.specs.declared.stage.Stage.TheVariants.{Fresh}
+use Rattle.authentication.specs.declared.stage.AuthenticationStage.TheVariants.{Fresh}
 use Rattle.authentication.proofs.Turning.{startup_refused_turned, startup_turned}
 use Rattle.authentication.proofs.turn.turn_startup.Goals as goal
 

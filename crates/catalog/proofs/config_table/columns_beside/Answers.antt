@@ -3,16 +3,16 @@ use Rattle.std.specs.Prelude.{IfOk, IfSome}
 use Rattle.std.specs.Option.{ok_or}
 use Rattle.toml.specs.Data.{Data, get}
 use Rattle.toml.specs.View.{view}
-use Rattle.catalog.specs.declared.config_fault.Member.{Member}
-use Rattle.catalog.specs.declared.config_fault.Member.TheVariants as members
-use Rattle.catalog.specs.declared.config_table.Unread.{Unread}
-use Rattle.catalog.specs.declared.config_table.Unread.TheVariants.{Wrong}
+use Rattle.catalog.specs.declared.config_fault.CatalogMember.{CatalogMember}
+use Rattle.catalog.specs.declared.config_fault.CatalogMember.TheVariants as members
+use Rattle.catalog.specs.declared.config_table.UnreadTable.{UnreadTable}
+use Rattle.catalog.specs.declared.config_table.UnreadTable.TheVariants.{Wrong}
 use Rattle.catalog.specs.Config.{Reads, told_member, columns_in}
 use Rattle.tables.specs.Tables.{AreColumns}
 use Rattle.catalog.proofs.config_table.columns_beside.Goals as goal
 
 -- what is found in a member is told by that member, where it is none
-found : {X : Type 0} (which : Member) (key : List ℕ) (read : Data → Option X) (d value : Data) (there : Option X) (result : Result X Unread) →
+found : {X : Type 0} (which : CatalogMember) (key : List ℕ) (read : Data → Option X) (d value : Data) (there : Option X) (result : Result X UnreadTable) →
     Some value ≡ get key d → there ≡ read value → result ≡ ok_or there (Wrong which) → Reads result (told_member which key read d)
 found {X = X} which key read d value there result got is given = rw (given, ← got, ← is) (by_there there)
   where
@@ -20,7 +20,7 @@ found {X = X} which key read d value there result got is given = rw (given, ← 
     by_there None = refl
     by_there (Some x) = refl
 
-fits : {X : Type 0} (P : X → Type 0) (e : Unread) (there : Option X) (result : Result X Unread) → IfSome there P → result ≡ ok_or there e → IfOk result P
+fits : {X : Type 0} (P : X → Type 0) (e : UnreadTable) (there : Option X) (result : Result X UnreadTable) → IfSome there P → result ≡ ok_or there e → IfOk result P
 fits P e None result is given = rw given tt
 fits P e (Some x) result is given = rw given is
 

@@ -4,7 +4,7 @@ use Rattle.toml.specs.Data.{Data, get}
 use Rattle.toml.specs.View.{view}
 use Rattle.tables.specs.declared.column.Column.{Column}
 use Rattle.tables.specs.declared.identity.Identity.{Identity}
-use Rattle.catalog.specs.declared.config_fault.Member.TheVariants as members
+use Rattle.catalog.specs.declared.config_fault.CatalogMember.TheVariants as members
 use Rattle.catalog.specs.Config.{told_member, oid_in, name_in, identity_in, columns_at, has_others, table_in}
 use Rattle.catalog.proofs.config_table.table_in.Goals as goal
 

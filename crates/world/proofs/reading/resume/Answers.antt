@@ -1,7 +1,7 @@
 use Rattle.std.proofs.Common.{subst}
 use Rattle.wal.specs.Log.{IsWellFormedLog}
 use Rattle.txlog.specs.Publishing.{PublisherState}
-use Rattle.shared_log.specs.Fronts.{settled_records}
+use Rattle.shared_log.specs.SeenPrefixes.{settled_records}
 use Rattle.shared_log.specs.Readers.{seen_of}
 use Rattle.world.proofs.Unread.{begun, resumed_at}
 use Rattle.world.proofs.reading.resume.Goals as goal

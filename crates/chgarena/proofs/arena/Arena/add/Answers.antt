@@ -2,7 +2,7 @@ use Rattle.std.proofs.Common.{◌≡◌, ℕ, ◌+◌, ◌<◌, ◌≤◌, None,
 use Rattle.std.proofs.lemmas.List.{get_or_default}
 use Rattle.chgarena.specs.Books.{at}
 use Rattle.chgarena.specs.Pages.{bytes_taken}
-use Rattle.chgarena.proofs.Seeing.{added_arena, added_says, behind_arena, behind_says, few_before, of_seen, same_arena}
+use Rattle.chgarena.proofs.Seeing.{added_arena, added_says, after_arena, after_says, few_before, of_seen, same_arena}
 use Rattle.chgarena.proofs.arena.Arena.add.Goals as goal
 
 pub last-last-requires : goal.last-last-requires
@@ -18,8 +18,8 @@ append-requires-clause-chunk c =
     let has = of_seen c.self.inside.links c.self.inside.pages c.self.inside.before.items c.self.invariant c.args.self.now c.self.view_is c.args.head c.requires.of in
     omega (arith, has, c.last-last.ensures, c.self.invariant.pages)
 
-pub push_behind-requires-clause-strand : goal.push_behind-requires-clause-strand
-push_behind-requires-clause-strand c = of_seen c.self.inside.links c.self.inside.pages c.self.inside.before.items c.self.invariant c.args.self.now c.self.view_is c.args.head c.requires.of
+pub push_after-requires-clause-strand : goal.push_after-requires-clause-strand
+push_after-requires-clause-strand c = of_seen c.self.inside.links c.self.inside.pages c.self.inside.before.items c.self.invariant c.args.self.now c.self.view_is c.args.head c.requires.of
 
 -- what is left of the last chunk
 used : (ps : List (List (List ℕ))) (last l left size : ℕ) → last ≡ l → left + bytes_taken (get_or ps last []) ≡ 16384 → size ≤ left → bytes_taken (get_or ps l []) + size ≤ 16384
@@ -68,31 +68,31 @@ invariant_of-self-in-Some c =
     let has = of_seen i.links i.pages i.before.items c.self.invariant c.args.self.now c.self.view_is h c.requires.of in
     let was : c.index.result.now ≡ at i.before.items c.last-last.result =
     c.index.ensures ∙ get_or_default i.before.items c.last-last.result c.index.result.now 0 (omega (arith, has, c.last-last.ensures, c.self.invariant.befores)) in
-    behind_arena i.links i.pages i.before.items c.self.invariant c.args.self.now c.self.view_is h c.requires.of e c.requires.fits
+    after_arena i.links i.pages i.before.items c.self.invariant c.args.self.now c.self.view_is h c.requires.of e c.requires.fits
     (over i.pages c.last-last.result (at i.links.last.items h) c.left.result (length e + 4) c.last-last.ensures c.left.ensures c.if-left-entry.false)
-    c.push_behind.new.links c.in-Some.ensures.links c.push_behind.new.pages c.in-Some.chunk (c.index.result.now + c.count.result) c.in-Some.ensures.done
+    c.push_after.new.links c.in-Some.ensures.links c.push_after.new.pages c.in-Some.chunk (c.index.result.now + c.count.result) c.in-Some.ensures.done
     (before i.before.items i.pages c.last-last.result (at i.links.last.items h) c.index.result.now c.count.result c.last-last.ensures was c.count.ensures)
 
 pub invariant_of-self-in-None : goal.invariant_of-self-in-None
 invariant_of-self-in-None c =
     let i = c.self.inside in
     same_arena i.links i.pages i.before.items c.self.invariant c.args.self.now c.self.view_is
-    c.push_behind.new.links c.in-None.ensures.links c.push_behind.new.pages c.in-None.ensures.done.0 c.in-None.ensures.done.1
+    c.push_after.new.links c.in-None.ensures.links c.push_after.new.pages c.in-None.ensures.done.0 c.in-None.ensures.done.1
 
 pub returns-in-Some : goal.returns-in-Some
 returns-in-Some c =
     let i = c.self.inside in
     let h = c.args.head in
     let e = c.args.entry.now in
-    behind_says i.links i.pages i.before.items c.self.invariant c.args.self.now c.self.view_is h c.requires.of e c.requires.fits
+    after_says i.links i.pages i.before.items c.self.invariant c.args.self.now c.self.view_is h c.requires.of e c.requires.fits
     (over i.pages c.last-last.result (at i.links.last.items h) c.left.result (length e + 4) c.last-last.ensures c.left.ensures c.if-left-entry.false)
-    c.push_behind.new.links c.in-Some.ensures.links c.push_behind.new.pages (Some c.in-Some.chunk) c.in-Some.ensures.done
+    c.push_after.new.links c.in-Some.ensures.links c.push_after.new.pages (Some c.in-Some.chunk) c.in-Some.ensures.done
 
 pub returns-in-None : goal.returns-in-None
 returns-in-None c =
     let i = c.self.inside in
     let h = c.args.head in
     let e = c.args.entry.now in
-    behind_says i.links i.pages i.before.items c.self.invariant c.args.self.now c.self.view_is h c.requires.of e c.requires.fits
+    after_says i.links i.pages i.before.items c.self.invariant c.args.self.now c.self.view_is h c.requires.of e c.requires.fits
     (over i.pages c.last-last.result (at i.links.last.items h) c.left.result (length e + 4) c.last-last.ensures c.left.ensures c.if-left-entry.false)
-    c.push_behind.new.links c.in-None.ensures.links c.push_behind.new.pages None c.in-None.ensures.done
+    c.push_after.new.links c.in-None.ensures.links c.push_after.new.pages None c.in-None.ensures.done

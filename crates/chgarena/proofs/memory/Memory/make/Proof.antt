@@ -34,7 +34,7 @@ use Rattle.std.proofs.raw_atomic.Walks.{proved_at, leaves}
 use Rattle.chgarena.specs.Places.{bytes, places}
 use Rattle.chgarena.proofs.Regions.{unwritten, memory_val, memory_own, memory_made, lease_val, lease_own, lease_made, slot, goes_on}
 use Rattle.chgarena.specs.contracts.memory.Memory as memory
-use Rattle.chgarena.specs.contracts.memory.Lease as lease
+use Rattle.chgarena.specs.contracts.memory.ReleaseRight as lease
 use Rattle.chgarena.specs.contracts.memory.Memory.make.{ended, clauses}
 use Rattle.chgarena.specs.contracts.memory.Memory.make.Key.{name}
 use Rattle.chgarena.proofs.memory.Memory.make.Statement.{statement}

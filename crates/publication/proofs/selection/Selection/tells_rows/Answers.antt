@@ -6,7 +6,7 @@ use Rattle.tables.specs.Tables.{fits_table}
 use Rattle.publication_config.specs.declared.operations.Operation.TheVariants.{Update}
 use Rattle.row_messages.specs.Messages.{stands_in}
 use Rattle.publication.specs.Projection.{passes}
-use Rattle.publication.proofs.Fields.{behind_is, update_parts}
+use Rattle.publication.proofs.Fields.{after_is, update_parts}
 use Rattle.publication.proofs.Judgements.{both_stand, large_first, large_second, read_alike, unfit_first, update_judged, update_read}
 use Rattle.publication.proofs.selection.Selection.tells_rows.Goals as goal
 
@@ -24,7 +24,7 @@ returns-then-not-takes_ref-clause-value c = λ m e.
 pub returns-in_default-last_row-clause-value : goal.returns-in_default-last_row-clause-value
 returns-in_default-last_row-clause-value c = λ m e.
     let p = update_parts c.args.fields.now [] m e in
-    let behind = behind_is c.args.fields.now c.in-Some.behind.now p.after (c.in-Some.oid, c.oid_and_row.new.row) m.0 c.in-Some.ensures.found p.old in
+    let behind = after_is c.args.fields.now c.in-Some.behind.now p.after (c.in-Some.oid, c.oid_and_row.new.row) m.0 c.in-Some.ensures.found p.old in
     large_second (stands_in c.args.table.now m.0.1) c.args.table.now m.1 _ c.requires (c.in_default-last_row.ensures.none m.1 (ap row_at behind ∙ p.new))
 
 pub returns-clause-value : goal.returns-clause-value

@@ -6,7 +6,7 @@ use Rattle.server.specs.Copies.{name_front}
 use Rattle.server.specs.declared.asked.copy_command.TheConstants.{MOST_COLUMNS}
 use Rattle.server.proofs.CopyColumns.{begun, done, goes_on, no_column, too_many}
 use Rattle.server.proofs.CopyNames.{name_read}
-use Rattle.server.proofs.Lists.{behind_text}
+use Rattle.server.proofs.Lists.{after_text}
 use Rattle.server.proofs.asked.copy_command.columns_of.Goals as goal
 
 pub loop-place-init : goal.loop-place-init
@@ -32,7 +32,7 @@ loop-place-preserved c =
     let left = (name_read c.loop-place.place.now c.in-Some.name c.in-Some.rest.now read).text c.loop-place.invariant.valid in
     record {
       going = rw c.in_ok-push.ensures.items next;
-      valid = behind_text (codes ", ") c.in-Some-behind.more.now refl (subst IsUtf8 c.in-Some-behind.ensures left);
+      valid = after_text (codes ", ") c.in-Some-behind.more.now refl (subst IsUtf8 c.in-Some-behind.ensures left);
     }
 
 pub returns : goal.returns

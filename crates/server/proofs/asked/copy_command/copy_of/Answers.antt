@@ -3,7 +3,7 @@ use Rattle.std.specs.Prelude.{codes}
 use Rattle.std.specs.Str.{IsUtf8}
 use Rattle.replcmd.proofs.Texts.{cut_at_ascii}
 use Rattle.server.proofs.CopyForms.{filtered_reads, has_end, whole_reads}
-use Rattle.server.proofs.Lists.{behind_text}
+use Rattle.server.proofs.Lists.{after_text}
 use Rattle.server.proofs.asked.copy_command.copy_of.Goals as goal
 
 pub returns-in_default : goal.returns-in_default
@@ -13,7 +13,7 @@ pub filtered_of-requires : goal.filtered_of-requires
 filtered_of-requires c =
     let ends : c.args.text.now ≡ c.in-Some.front.now ++ codes ") TO STDOUT" = sym c.as_bytes.ensures.value ∙ c.in-Some.ensures in
     let front = (cut_at_ascii c.in-Some.front.now 41 (codes " TO STDOUT") (omega arith) (subst IsUtf8 ends c.utf8.text)).0 in
-    behind_text (codes "COPY (SELECT ") c.in-Some-behind.selected.now refl (subst IsUtf8 c.in-Some-behind.ensures front)
+    after_text (codes "COPY (SELECT ") c.in-Some-behind.selected.now refl (subst IsUtf8 c.in-Some-behind.ensures front)
 
 pub whole_of-requires : goal.whole_of-requires
 whole_of-requires c =

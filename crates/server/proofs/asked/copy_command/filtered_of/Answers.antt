@@ -4,7 +4,7 @@ use Rattle.std.specs.Str.{IsUtf8}
 use Rattle.server.specs.CopyReading.{EndsColumns, EndsName, Read, SomeColumnsAt, TableAt}
 use Rattle.server.specs.declared.asked.table_name.TableName.{TableName}
 use Rattle.server.proofs.CopyFilters.{filtered_no_columns, filtered_no_from, filtered_no_table, filtered_no_where, filtered_read}
-use Rattle.server.proofs.Lists.{behind_text}
+use Rattle.server.proofs.Lists.{after_text}
 use Rattle.server.proofs.asked.copy_command.filtered_of.Goals as goal
 
 pub returns-in_default : goal.returns-in_default
@@ -20,7 +20,7 @@ returns-in_default-behind c =
 pub table_of-requires : goal.table_of-requires
 table_of-requires c =
     let names : Read (λ columns rest. SomeColumnsAt c.args.text.now columns rest) EndsColumns c.in-Some.columns c.in-Some.rest.now = rw c.in-Some.is at c.in_ok-columns.ensures in
-    behind_text (codes " FROM ONLY ") c.in-Some-behind.rest.now refl (subst IsUtf8 c.in-Some-behind.ensures names.text)
+    after_text (codes " FROM ONLY ") c.in-Some-behind.rest.now refl (subst IsUtf8 c.in-Some-behind.ensures names.text)
 
 pub returns-in_default-2 : goal.returns-in_default-2
 returns-in_default-2 c =
@@ -37,7 +37,7 @@ returns-in_default-behind-2 c =
 pub returns-in_default-from_utf8 : goal.returns-in_default-from_utf8
 returns-in_default-from_utf8 c =
     let read : Read (λ table rest. TableAt c.in-Some-behind.rest.now table rest) EndsName c.in-Some-2.table c.in-Some-2.rest.now = rw c.in-Some-2.is at c.in_ok-table.ensures in
-    absurd (c.in_default-from_utf8.ensures.cases.0 (behind_text (codes " WHERE ") c.in-Some-behind-2.rest.now refl (subst IsUtf8 c.in-Some-behind-2.ensures read.text)))
+    absurd (c.in_default-from_utf8.ensures.cases.0 (after_text (codes " WHERE ") c.in-Some-behind-2.rest.now refl (subst IsUtf8 c.in-Some-behind-2.ensures read.text)))
 
 pub returns : goal.returns
 returns c =

@@ -5,7 +5,7 @@ use Rattle.pqformat.proofs.Quoting.{found}
 use Rattle.server.specs.Copies.{name_front}
 use Rattle.server.proofs.CopyNames.{name_read}
 use Rattle.server.proofs.CopyTables.{no_point, no_schema, no_table, table_read}
-use Rattle.server.proofs.Lists.{behind_text}
+use Rattle.server.proofs.Lists.{after_text}
 use Rattle.server.proofs.asked.copy_command.table_of.Goals as goal
 
 pub returns-in_default : goal.returns-in_default
@@ -21,7 +21,7 @@ returns-in_default-behind c =
 pub name_of-requires-2 : goal.name_of-requires-2
 name_of-requires-2 c =
     let read : name_front c.args.text.now ≡ found c.in-Some.schema c.in-Some.rest.now = search rules in
-    behind_text (codes ".") c.in-Some-behind.rest.now refl (subst IsUtf8 c.in-Some-behind.ensures ((name_read c.args.text.now c.in-Some.schema c.in-Some.rest.now read).text c.requires))
+    after_text (codes ".") c.in-Some-behind.rest.now refl (subst IsUtf8 c.in-Some-behind.ensures ((name_read c.args.text.now c.in-Some.schema c.in-Some.rest.now read).text c.requires))
 
 pub returns-in-Some-2 : goal.returns-in-Some-2
 returns-in-Some-2 c =

@@ -4,12 +4,12 @@ use Rattle.std.specs.Str.{IsUtf8}
 use Rattle.server.specs.CopyReading.{EndsColumns, EndsName, Read, SomeColumnsAt, TableAt}
 use Rattle.server.specs.declared.asked.table_name.TableName.{TableName}
 use Rattle.server.proofs.CopyForms.{whole_goes_on, whole_no_bracket, whole_no_columns, whole_no_table, whole_read}
-use Rattle.server.proofs.Lists.{behind_text}
+use Rattle.server.proofs.Lists.{after_text}
 use Rattle.server.proofs.Slots.{nothing_left}
 use Rattle.server.proofs.asked.copy_command.whole_of.Goals as goal
 
 pub table_of-requires : goal.table_of-requires
-table_of-requires c = behind_text (codes "COPY ") c.in-Some.rest.now refl (subst IsUtf8 c.in-Some.ensures c.requires)
+table_of-requires c = after_text (codes "COPY ") c.in-Some.rest.now refl (subst IsUtf8 c.in-Some.ensures c.requires)
 
 pub returns-in_default-2 : goal.returns-in_default-2
 returns-in_default-2 c =
@@ -24,7 +24,7 @@ returns-in_default-behind c =
 pub columns_of-requires : goal.columns_of-requires
 columns_of-requires c =
     let read : Read (λ table rest. TableAt c.in-Some.rest.now table rest) EndsName c.in-Some-2.table c.in-Some-2.rest.now = rw c.in-Some-2.is at c.in_ok-table.ensures in
-    behind_text (codes " (") c.in-Some-behind.rest.now refl (subst IsUtf8 c.in-Some-behind.ensures read.text)
+    after_text (codes " (") c.in-Some-behind.rest.now refl (subst IsUtf8 c.in-Some-behind.ensures read.text)
 
 pub returns-in_default-3 : goal.returns-in_default-3
 returns-in_default-3 c =

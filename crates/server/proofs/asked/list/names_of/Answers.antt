@@ -4,7 +4,7 @@ use Rattle.std.specs.Str.{IsUtf8}
 use Rattle.pqformat.proofs.Quoting.{found}
 use Rattle.server.specs.Reading.{literal_front}
 use Rattle.server.proofs.Literals.{literal_leaves_text}
-use Rattle.server.proofs.Lists.{behind_text, done, goes_on, no_comma, no_name, shrinks}
+use Rattle.server.proofs.Lists.{after_text, done, goes_on, no_comma, no_name, shrinks}
 use Rattle.server.proofs.asked.list.names_of.Goals as goal
 
 pub returns-in_default : goal.returns-in_default
@@ -36,5 +36,5 @@ loop-names-preserved c =
     let left = literal_leaves_text c.loop-names.place.now c.in-Some.name c.in-Some.rest.now c.loop-names.invariant.valid read in
     record {
       going = rw c.in_ok-push.ensures.items next;
-      valid = behind_text (codes ", ") c.in-Some-behind.more.now refl (subst IsUtf8 c.in-Some-behind.ensures left);
+      valid = after_text (codes ", ") c.in-Some-behind.more.now refl (subst IsUtf8 c.in-Some-behind.ensures left);
     }

@@ -2,7 +2,7 @@ use Rattle.std.proofs.Common.{◌≡◌, false, refl, subst, rules}
 use Rattle.std.specs.Prelude.{codes}
 use Rattle.std.specs.Str.{IsUtf8}
 use Rattle.replcmd.specs.Words.{is_slot_name}
-use Rattle.server.proofs.Lists.{behind_text}
+use Rattle.server.proofs.Lists.{after_text}
 use Rattle.server.proofs.Slots.{drops_quoted, named_text}
 use Rattle.server.proofs.asked.question.slot_of.Goals as goal
 
@@ -11,7 +11,7 @@ returns-in_default c slot spells = absurd (c.in_default.ensures _ spells.1.1)
 
 pub quoted_slot_of-requires : goal.quoted_slot_of-requires
 quoted_slot_of-requires c =
-    named_text c.in-Some.rest.now c.in-Some-before.named.now c.in-Some-before.ensures (behind_text (codes "DROP_REPLICATION_SLOT ") c.in-Some.rest.now refl (subst IsUtf8 c.in-Some.ensures c.requires))
+    named_text c.in-Some.rest.now c.in-Some-before.named.now c.in-Some-before.ensures (after_text (codes "DROP_REPLICATION_SLOT ") c.in-Some.rest.now refl (subst IsUtf8 c.in-Some.ensures c.requires))
 
 pub returns-in-None : goal.returns-in-None
 returns-in-None c =

@@ -3,7 +3,7 @@ use Rattle.std.proofs.lemmas.Result.{err_from_is_err_and}
 use Rattle.replcmd.specs.declared.clauses.strictness.Strictness.TheVariants.{Lenient}
 use Rattle.server.specs.declared.asked.question.Question.{Question}
 use Rattle.server.specs.Questions.{SpellsQuestion}
-use Rattle.server.specs.declared.service.Dialect.TheVariants.{Questions}
+use Rattle.server.specs.declared.connection_terms.Dialect.TheVariants.{Questions}
 use Rattle.server.specs.Conversation.{AnswersQuestion, Replies, RepliesIn, why_of}
 use Rattle.server.proofs.Names.{short_parameter}
 use Rattle.server.proofs.Steps.{answered_as, tried_as}

@@ -1,6 +1,6 @@
 use Rattle.server.specs.Conversation.{Replies, RepliesIn, why_of}
 use Rattle.replcmd.specs.declared.clauses.strictness.Strictness.TheVariants.{Strict}
-use Rattle.server.specs.declared.service.Dialect.TheVariants.{Commands}
+use Rattle.server.specs.declared.connection_terms.Dialect.TheVariants.{Commands}
 use Rattle.server.proofs.Steps.{answered_as}
 use Rattle.server.proofs.asked.replying.reply_or_refuse.Goals as goal
 

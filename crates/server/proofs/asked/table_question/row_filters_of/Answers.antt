@@ -5,7 +5,7 @@ use Rattle.std.specs.Fmt.{decimal}
 use Rattle.std.specs.Str.{IsUtf8}
 use Rattle.pqformat.specs.Quoting.{begins}
 use Rattle.server.specs.Questions.{SpellsNames}
-use Rattle.server.proofs.Lists.{behind_text}
+use Rattle.server.proofs.Lists.{after_text}
 use Rattle.server.proofs.TableReads.{behind_number, listed_no_middle, listed_no_names, listed_no_number, listed_read}
 use Rattle.server.proofs.asked.table_question.row_filters_of.Goals as goal
 
@@ -34,7 +34,7 @@ returns-in_default-behind c =
 pub names_of-requires-clause-utf8 : goal.names_of-requires-clause-utf8
 names_of-requires-clause-utf8 c =
     let number : (c.in-Some.oid < 2 ^ 32) × (begins is_ascii_digit c.in-Some.rest.now ≡ false) × (c.args.text.now ≡ front ++ (decimal c.in-Some.oid ++ c.in-Some.rest.now)) = rw c.in-Some.is at c.in_ok-oid.ensures in
-    behind_text middle c.in-Some-behind.list.now refl (subst IsUtf8 c.in-Some-behind.ensures (behind_number c.args.text.now front c.in-Some.rest.now c.in-Some.oid refl number.0 number.2 c.requires))
+    after_text middle c.in-Some-behind.list.now refl (subst IsUtf8 c.in-Some-behind.ensures (behind_number c.args.text.now front c.in-Some.rest.now c.in-Some.oid refl number.0 number.2 c.requires))
 
 pub returns-in-Some-2 : goal.returns-in-Some-2
 returns-in-Some-2 c =

@@ -3,7 +3,7 @@ use Rattle.std.specs.Prelude.{None}
 use Rattle.std.specs.Str.{IsUtf8}
 use Rattle.pqformat.proofs.Quoting.{found}
 use Rattle.server.specs.Reading.{literal_front}
-use Rattle.server.proofs.Lists.{behind_text}
+use Rattle.server.proofs.Lists.{after_text}
 use Rattle.server.proofs.Literals.{literal_leaves_text}
 use Rattle.server.proofs.Slots.{nothing_left}
 use Rattle.server.proofs.TableReads.{table_front, table_goes_on, table_middle, table_no_front, table_no_middle, table_no_name, table_no_schema, table_read}
@@ -14,7 +14,7 @@ pub returns-in_default : goal.returns-in_default
 returns-in_default c = table_no_front c.args.text.now c.in_default.ensures
 
 pub literal_of-requires : goal.literal_of-requires
-literal_of-requires c = behind_text table_front c.in-Some.named.now refl (subst IsUtf8 c.in-Some.ensures c.requires)
+literal_of-requires c = after_text table_front c.in-Some.named.now refl (subst IsUtf8 c.in-Some.ensures c.requires)
 
 pub returns-in_default-2 : goal.returns-in_default-2
 returns-in_default-2 c =
@@ -29,8 +29,8 @@ returns-in_default-behind c =
 pub literal_of-requires-2 : goal.literal_of-requires-2
 literal_of-requires-2 c =
     let read : literal_front c.in-Some.named.now ≡ found c.in-Some-2.schema c.in-Some-2.rest.now = search rules in
-    let valid = behind_text table_front c.in-Some.named.now refl (subst IsUtf8 c.in-Some.ensures c.requires) in
-    behind_text table_middle c.in-Some-behind.named.now refl (subst IsUtf8 c.in-Some-behind.ensures (literal_leaves_text c.in-Some.named.now c.in-Some-2.schema c.in-Some-2.rest.now valid read))
+    let valid = after_text table_front c.in-Some.named.now refl (subst IsUtf8 c.in-Some.ensures c.requires) in
+    after_text table_middle c.in-Some-behind.named.now refl (subst IsUtf8 c.in-Some-behind.ensures (literal_leaves_text c.in-Some.named.now c.in-Some-2.schema c.in-Some-2.rest.now valid read))
 
 pub returns-in-Some-3 : goal.returns-in-Some-3
 returns-in-Some-3 c =

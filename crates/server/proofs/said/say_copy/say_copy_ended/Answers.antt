@@ -4,7 +4,7 @@ use Rattle.std.specs.Fmt.{decimal}
 use Rattle.std.proofs.lemmas.Fmt.{length-decimal-le}
 use Rattle.std.proofs.lemmas.List.{length-append}
 use Rattle.frames.specs.declared.back.Back.TheVariants.{CopyDone, ReadyForQuery}
-use Rattle.frames.specs.declared.backend.ready_for_query.Status.TheVariants as statuses
+use Rattle.frames.specs.declared.backend.ready_for_query.TransactionStatus.TheVariants as statuses
 use Rattle.server.specs.Copies.{copy_ended}
 use Rattle.server.specs.Said.{sent_frame, completion}
 use Rattle.server.proofs.Tails.{after}

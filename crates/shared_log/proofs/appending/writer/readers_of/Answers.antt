@@ -1,4 +1,4 @@
-use Rattle.shared_log.specs.Fronts.{shown_records}
+use Rattle.shared_log.specs.SeenPrefixes.{shown_records}
 use Rattle.shared_log.specs.Kept.{kept_in}
 use Rattle.shared_log.proofs.Steps.{admits}
 use Rattle.shared_log.proofs.appending.writer.readers_of.Goals as goal

@@ -1,7 +1,7 @@
 use Rattle.std.proofs.Common.{◌≡◌, arith, ap, ◌∙◌, drop, take}
 use Rattle.std.proofs.lemmas.List.{length-map}
 use Rattle.wal.specs.Records.{shared_records}
-use Rattle.shared_log.specs.Fronts.{shown_records}
+use Rattle.shared_log.specs.SeenPrefixes.{shown_records}
 use Rattle.shared_log.specs.Kept.{records_in}
 use Rattle.shared_log.proofs.Reading.{fetched_there, fits_there}
 use Rattle.shared_log.proofs.following.reader.part_of.Goals as goal

@@ -1,6 +1,6 @@
 use Rattle.std.proofs.Common.{◌∙◌, ℕ, ap, arith, take}
 use Rattle.shared_log.specs.declared.histories.copy.Logged.{Logged}
-use Rattle.shared_log.specs.Fronts.{shown_records}
+use Rattle.shared_log.specs.SeenPrefixes.{shown_records}
 use Rattle.wal.specs.Restart.{oldest}
 use Rattle.shared_log.proofs.Reading.{oldest_there}
 use Rattle.shared_log.proofs.following.resuming.oldest_at.Goals as goal

@@ -2,7 +2,7 @@ use Rattle.std.proofs.Common.{of_calls, arith, nat_lt, rules}
 use Rattle.std.proofs.lemmas.Fn.{always_returns_same}
 use Rattle.std.proofs.lemmas.List.Sorted.{IsPartitionedBy-ltb}
 use Rattle.shared_log.specs.declared.histories.copy.Logged.{Logged}
-use Rattle.shared_log.specs.Fronts.{shown_records}
+use Rattle.shared_log.specs.SeenPrefixes.{shown_records}
 use Rattle.shared_log.proofs.Kept.{place_at, starts_rise}
 use Rattle.shared_log.proofs.Reading.{follow_there}
 use Rattle.shared_log.proofs.following.resuming.place_from.Goals as goal

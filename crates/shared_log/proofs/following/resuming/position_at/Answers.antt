@@ -1,7 +1,7 @@
 use Rattle.std.proofs.Common.{◌∙◌, ap}
 use Rattle.wal.specs.declared.record.Record.{Record}
 use Rattle.shared_log.specs.declared.histories.copy.Logged.{Logged}
-use Rattle.shared_log.specs.Fronts.{shown_records}
+use Rattle.shared_log.specs.SeenPrefixes.{shown_records}
 use Rattle.shared_log.proofs.Reading.{position_there}
 use Rattle.shared_log.proofs.following.resuming.position_at.Goals as goal
 

@@ -1,7 +1,7 @@
 use Rattle.std.proofs.Common.{◌≡◌, ◌≤◌, ◌⊎◌, inl, inr, ◌+◌, ℕ, arith, ap, ◌∙◌, take}
 use Rattle.wal.specs.Log.{end_of}
 use Rattle.wal.specs.declared.record.TheConstants.{FIRST_POSITION}
-use Rattle.shared_log.specs.Fronts.{shown_records}
+use Rattle.shared_log.specs.SeenPrefixes.{shown_records}
 use Rattle.shared_log.proofs.Reading.{begins_there}
 use Rattle.shared_log.proofs.following.resuming.restart_of.Goals as goal
 use Rattle.shared_log.proofs.following.resuming.restart_of.Goals.{else-copy-gt0-via-then-copy-gt0+else-start-copy, else-copy-gt0-via-else-copy-gt0}

@@ -1,7 +1,7 @@
 use Rattle.std.proofs.Common.{◌≡◌, ◌+◌, ◌∷◌, [], ℕ, List, Option, None, map, option_map, sym, ap, subst, ◌∙◌, arith}
 use Rattle.std.specs.List.{AllByRecursion}
 use Rattle.std.proofs.lemmas.List.{map-append}
-use Rattle.slots.proofs.Leases.{none_behind}
+use Rattle.slots.proofs.Leases.{none_after}
 use Rattle.slots.proofs.by_name.held.no_leases.Goals as goal
 
 pub loop-preserved : goal.loop-preserved
@@ -12,5 +12,5 @@ loop-preserved g c =
       omega (arith, capacity, room),
       subst (λ (l : List (Option ℕ)). AllByRecursion (λ (o : Option ℕ). o ≡ None) l)
           (sym (ap (map (option_map (λ lease. lease.place))) c.push_reserved.ensures.items ∙ map-append (option_map (λ lease. lease.place)) c.loop.leases.items (None ∷ [])))
-          (none_behind (map (option_map (λ lease. lease.place)) c.loop.leases.items) c.loop.invariant.2),
+          (none_after (map (option_map (λ lease. lease.place)) c.loop.leases.items) c.loop.invariant.2),
     )

@@ -1,13 +1,13 @@
 use Rattle.std.proofs.Common.{◌≡◌, ℕ, suc, ◌+◌, ◌<◌, All, [], ◌∷◌, ◌++◌, length, sym, ap, subst, ◌∙◌, arith}
 use Rattle.std.proofs.lemmas.List.{length_push}
 use Rattle.std.proofs.lemmas.List.Elements.{All-push}
-use Rattle.slots.specs.declared.words_kept.step.View.{View}
+use Rattle.slots.specs.declared.words_kept.step.SeatView.{SeatView}
 use Rattle.slots.specs.Rule.{newest, one_more}
 use Rattle.slots.specs.Seats.{IsFresh}
 use Rattle.slots.proofs.Seating.{splits, newest_is_fresh, first_is_fresh}
 use Rattle.slots.proofs.opened.OpenedSlots.open.Goals as goal
 
-abbrev with_seats : ℕ → View
+abbrev with_seats : ℕ → SeatView
 with_seats n = record { number = 0; seats = n; steps = [] }
 
 pub split_seat-seat-requires : goal.split_seat-seat-requires
@@ -51,5 +51,5 @@ returns g c =
     let done : suc (length c.loop.others.items) ≡ c.args.seats = omega (arith, count, ends, reached) in (
       omega (arith, longer, done, ok),
       subst (All (IsFresh c.args.seats)) (sym items) (All-push (IsFresh c.args.seats) c.loop.others.items _ c.loop.invariant.3 (first_is_fresh c.args.seats (suc (length c.loop.others.items)) _ done (ap (λ m. m.0) c.loop.invariant.1))),
-      (c.loop.others.items, items ∙ ap (λ (v : View). c.loop.others.items ++ v ∷ []) (ap (λ m. m.0) c.loop.invariant.1 ∙ ap with_seats done)),
+      (c.loop.others.items, items ∙ ap (λ (v : SeatView). c.loop.others.items ++ v ∷ []) (ap (λ m. m.0) c.loop.invariant.1 ∙ ap with_seats done)),
     )

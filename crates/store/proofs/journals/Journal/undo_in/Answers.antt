@@ -1,5 +1,5 @@
 use Rattle.std.proofs.Common.{◌≡◌, ◌-◌, ℕ, List, [], ◌∷◌, ◌++◌, take, get_or, sym, ap, subst, ◌∙◌, arith}
-use Rattle.store.specs.declared.places.slot.Undo.{Undo}
+use Rattle.store.specs.declared.places.stored_place.Undo.{Undo}
 use Rattle.store.specs.Snapshots.{Settling}
 use Rattle.store.proofs.Snapshots.{settling_more, take_last}
 use Rattle.store.proofs.journals.Journal.undo_in.Goals as goal

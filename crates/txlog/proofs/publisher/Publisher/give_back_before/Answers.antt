@@ -1,5 +1,5 @@
 use mathlib.Core.List.{IsPrefix}
-use Rattle.shared_log.specs.Fronts.{settled_records}
+use Rattle.shared_log.specs.SeenPrefixes.{settled_records}
 use Rattle.txlog.proofs.Sparing.{gives_back}
 use Rattle.txlog.proofs.publisher.Publisher.give_back_before.Goals as goal
 

@@ -8,7 +8,7 @@ use Rattle.reorder.specs.Taking.{HasTaken, MayCome, Takes, promised_changes, rea
 use Rattle.reorder.specs.declared.fault.ReorderFault.{ReorderFault}
 use Rattle.walsender.specs.declared.fault.SendFault.{SendFault}
 use Rattle.walsender.specs.Waiting.{ready_states}
-use Rattle.walsender.proofs.GivingWay.{lacks_room_alone, lacks_room_beside, read_behind, running_then, taken_then, tidy_then}
+use Rattle.walsender.proofs.GivingWay.{lacks_room_alone, lacks_room_beside, read_after, running_then, taken_then, tidy_then}
 use Rattle.walsender.proofs.Lent.{keeps_lent}
 use Rattle.walsender.proofs.Noting.{on_err}
 use Rattle.walsender.proofs.Taken.{lent_step, quiet_of, read_one, tidy_step}
@@ -107,7 +107,7 @@ returns-clause-ok c =
     let fills = subst (λ (r : Record). (rs : List Record) → HasTaken g.reorder rs → MayCome rs r.body → FillsReady m c.in-Ok.step) c.deref.ensures c.in-Ok.ensures.chunks in
     let lents = rw c.deref-in-Ok.ensures at told.lent in
     rw (← c.self.view_is)
-    (read_behind i.selection i.reorder g.reorder i.outgoing g.self c.give_way.ensures.same c.args.clock i.start i.position i.failed c.args.next.now.value _
+    (read_after i.selection i.reorder g.reorder i.outgoing g.self c.give_way.ensures.same c.args.clock i.start i.position i.failed c.args.next.now.value _
     (read_one c.args.clock i.selection i.start i.position c.deref-2.result.now.end i.failed c.args.next.now.value g.reorder m c.add_record.new.reorder g.self c.add_record.new.self c.in-Ok.step c.give_way.ensures.same.good.lent
     (keeps_lent i.selection g.reorder m g.self c.give_way.ensures.same.good c.take.ensures.lent) takes (ap (λ (r : Record). r.end) c.deref-2.ensures) grows fit told.taken fills lents (told.running ∙ c.in-Ok.ensures.running.1)))
 

@@ -1,7 +1,7 @@
 use Rattle.std.proofs.Common.{◌+◌, ◌∷◌, [], List, length, length-append, take, sym, ap, subst, arith}
 use Rattle.std.specs.Prelude.{Result}
 use Rattle.schedule.specs.declared.fault.WorldFault.{WorldFault as Fault}
-use Rattle.schedule.specs.declared.printed.answer.Answer.{Answer}
+use Rattle.world.specs.declared.printed.answer.Answer.{Answer}
 use Rattle.world.specs.State.{WorldState, new_world}
 use Rattle.world.specs.Machine.{world_of}
 use Rattle.world.specs.Steps.{IsRun, StopsAt}

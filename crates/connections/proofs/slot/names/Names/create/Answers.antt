@@ -1,6 +1,6 @@
 use Rattle.std.proofs.Common.{arith, subst, sym}
 use Rattle.slots.specs.Directories.{place_of}
-use Rattle.slots.specs.declared.words_kept.step.View.{View}
+use Rattle.slots.specs.declared.words_kept.step.SeatView.{SeatView}
 use Rattle.connections.specs.Names.{IsNoNewSlot}
 use Rattle.connections.proofs.Dropping.{dropped}
 use Rattle.connections.proofs.Naming.{added_in_table, refused, same_in_table}
@@ -18,7 +18,7 @@ returns-in-Err-clause-fault g c =
     let place = c.in_ok-free.free.place in
     let made = c.make.new.seat in
     let (found, left, did) = dropped c.drop_slot.result place made c.drop_slot.new.seat c.drop_slot.ensures in
-    subst (λ (seat : View). IsNoNewSlot c.in-Err.fault (place_of c.args.self.now.directory c.args.name.now) c.args.position c.args.self.now.seat seat) (sym c.go_on.ensures.seat)
+    subst (λ (seat : SeatView). IsNoNewSlot c.in-Err.fault (place_of c.args.self.now.directory c.args.name.now) c.args.position c.args.self.now.seat seat) (sym c.go_on.ensures.seat)
     (refused c.args.self.now.directory c.args.name.now c.args.position c.args.self.now.seat c.drop_slot.new.seat (place, found, left, made, c.in_ok-make.ensures, did) c.find.result c.find.ensures c.is_some.result c.is_some.ensures c.if-is_some.false c.in-Err.fault c.in-Err.ensures.fault)
 
 pub invariant_of-self-in_default : goal.invariant_of-self-in_default

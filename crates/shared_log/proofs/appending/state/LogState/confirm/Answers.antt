@@ -1,7 +1,7 @@
 use Rattle.std.proofs.Common.{◌≡◌, arith, List, ◌++◌, ◌∷◌, [], None, length, ap, sym, subst, ◌∙◌}
 use Rattle.shared_log.specs.declared.histories.entry.Entry.{Entry}
 use Rattle.shared_log.specs.declared.histories.entry.Entry.TheVariants.{Confirmed}
-use Rattle.shared_log.specs.Fronts.{open_from}
+use Rattle.shared_log.specs.SeenPrefixes.{open_from}
 use Rattle.shared_log.specs.Writing.{IsOffered}
 use Rattle.shared_log.proofs.Writing.{settled_within, stands_confirmed}
 use Rattle.shared_log.proofs.appending.state.LogState.confirm.Goals as goal

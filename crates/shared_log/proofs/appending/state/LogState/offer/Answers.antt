@@ -2,7 +2,7 @@ use Rattle.std.proofs.Common.{◌≡◌, ◌<◌, arith, List, ◌++◌, ◌∷�
 use Rattle.std.specs.Arc.{arc_value}
 use Rattle.shared_log.specs.declared.histories.entry.Entry.{Entry}
 use Rattle.shared_log.specs.declared.histories.entry.Entry.TheVariants.{Offered}
-use Rattle.shared_log.specs.Fronts.{settled_records}
+use Rattle.shared_log.specs.SeenPrefixes.{settled_records}
 use Rattle.shared_log.specs.Writing.{IsOutline}
 use Rattle.shared_log.proofs.Writing.{few_settled, offered_is, restart_is, stands_offered, stands_still}
 use Rattle.shared_log.proofs.appending.state.LogState.offer.Goals as goal

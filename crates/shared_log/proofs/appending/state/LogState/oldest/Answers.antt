@@ -1,7 +1,7 @@
 use Rattle.std.proofs.Common.{◌∙◌, ℕ, true, List, ap, sym}
 use Rattle.shared_log.specs.declared.histories.entry.Entry.{Entry}
 use Rattle.wal.specs.Restart.{oldest}
-use Rattle.shared_log.specs.Fronts.{settled_records}
+use Rattle.shared_log.specs.SeenPrefixes.{settled_records}
 use Rattle.shared_log.specs.Openings.{place_or, place_where}
 use Rattle.shared_log.proofs.Progress.{oldest_of}
 use Rattle.shared_log.proofs.appending.state.LogState.oldest.Goals as goal

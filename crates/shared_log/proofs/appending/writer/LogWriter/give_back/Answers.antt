@@ -1,7 +1,7 @@
 use Rattle.std.proofs.Common.{◌≤◌, arith, length}
 use Rattle.wal.specs.Restart.{is_in_progress, oldest}
 use Rattle.wal.proofs.Restarts.{within}
-use Rattle.shared_log.specs.Fronts.{settled_records}
+use Rattle.shared_log.specs.SeenPrefixes.{settled_records}
 use Rattle.shared_log.proofs.Writing.{shows_given}
 use Rattle.shared_log.proofs.appending.writer.LogWriter.give_back.Goals as goal
 

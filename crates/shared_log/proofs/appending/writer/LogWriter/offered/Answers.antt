@@ -1,10 +1,10 @@
 use Rattle.std.proofs.Common.{◌≡◌, ◌≤◌, ◌++◌, ◌∷◌, [], length, drop, refl, arith, ap, sym, subst, ◌∙◌}
 use Rattle.std.specs.Arc.{arc_value}
 use Rattle.std.proofs.lemmas.List.{length_push}
-use Rattle.shared_log.specs.Fronts.{settled_records, shown_records}
+use Rattle.shared_log.specs.SeenPrefixes.{settled_records, shown_records}
 use Rattle.shared_log.specs.Kept.{LiesFrom, kept_in}
 use Rattle.shared_log.specs.Writing.{IsOutline, Waits, Written}
-use Rattle.shared_log.proofs.Fronts.{settled_offer, settled_confirm, shown_offer}
+use Rattle.shared_log.proofs.SeenPrefixes.{settled_offer, settled_confirm, shown_offer}
 use Rattle.shared_log.proofs.Lying.{waits_rise}
 use Rattle.shared_log.proofs.Writing.{IsGrown, goes_to, grown_by, on_err, on_ok, shows_all, shows_still, shows_waiting}
 use Rattle.shared_log.proofs.appending.writer.LogWriter.offered.Goals as goal

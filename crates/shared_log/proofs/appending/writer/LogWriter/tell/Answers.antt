@@ -1,9 +1,9 @@
 use Rattle.std.proofs.Common.{List, ap, subst, ◌∙◌}
 use mathlib.Core.List.{IsPrefix}
 use Rattle.wal.specs.declared.record.Record.{Record}
-use Rattle.shared_log.specs.Fronts.{settled_records}
+use Rattle.shared_log.specs.SeenPrefixes.{settled_records}
 use Rattle.shared_log.specs.Writing.{Written}
-use Rattle.shared_log.proofs.Fronts.{settled_grows}
+use Rattle.shared_log.proofs.SeenPrefixes.{settled_grows}
 use Rattle.shared_log.proofs.appending.writer.LogWriter.tell.Goals as goal
 
 pub returns-clause-told : goal.returns-clause-told

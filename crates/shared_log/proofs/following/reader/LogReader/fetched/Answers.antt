@@ -6,7 +6,7 @@ use Rattle.wal.specs.declared.record.Record.{Record}
 use Rattle.wal.specs.Log.{IsWellFormedLog}
 use Rattle.shared_log.specs.declared.histories.copy.LogCopy.{LogCopy}
 use Rattle.shared_log.specs.declared.histories.rule.View.{View}
-use Rattle.shared_log.specs.Fronts.{settled_records, shown_records}
+use Rattle.shared_log.specs.SeenPrefixes.{settled_records, shown_records}
 use Rattle.shared_log.specs.Kept.{kept_in}
 use Rattle.shared_log.proofs.Reading.{why_unread}
 use Rattle.shared_log.proofs.Steps.{enters}

@@ -1,5 +1,5 @@
 use Rattle.left_right.specs.Sides.{view}
-use Rattle.shared_log.specs.Fronts.{shown_records}
+use Rattle.shared_log.specs.SeenPrefixes.{shown_records}
 use Rattle.shared_log.specs.Kept.{kept_in}
 use Rattle.shared_log.proofs.Steps.{enters}
 use Rattle.shared_log.proofs.following.reader.LogReader.resumed.Goals as goal

@@ -1,6 +1,6 @@
 use Rattle.std.proofs.Common.{◌≡◌, ℕ, List, [], ◌∷◌, ◌++◌, None, Some, get_or, refl, ap, ◌∙◌}
 use Rattle.std.proofs.lemmas.List.{drop_more}
-use Rattle.store.specs.declared.places.slot.Slot.{Slot}
+use Rattle.store.specs.declared.places.stored_place.StoredPlace.{StoredPlace}
 use Rattle.store.specs.Slots.{slot_at, slots_with}
 use Rattle.store.specs.History.{table_place}
 use Rattle.store.specs.Keeping.{all_emptied, put_at}
@@ -11,7 +11,7 @@ pub loop-oid-preserved : goal.loop-oid-preserved
 loop-oid-preserved c =
     let i : ℕ = c.loop-oid.oid-index in
     let oid : ℕ = get_or c.args.oids.now i 0 in
-    let held : Slot = record { row = None; owner = Some c.args.top } in
+    let held : StoredPlace = record { row = None; owner = Some c.args.top } in
     let at : c.as_bytes.result.now ≡ table_place oid = c.as_bytes.ensures ∙ c.of_table-table.ensures in
     let made : c.note.new.self ≡ slots_with (table_place oid) held c.loop-oid.self = c.in_ok-note.ensures.ok ∙ ap (λ (k : List ℕ). slots_with k held c.loop-oid.self) at in (
       λ place. held_next c.args.top c.args.oids.now i oid c.loop-oid.self c.note.new.self place (put_at (Some c.args.top) (all_emptied c.args.oids.now) place (slot_at c.args.self.now place))

@@ -1,6 +1,6 @@
 use Rattle.std.proofs.Common.{◌≡◌, ℕ, List, [], ◌∷◌, ◌++◌, None, Some, drop, ◌+◌, refl, sym, ap, ◌∙◌}
 use Rattle.std.proofs.lemmas.List.{drop_more}
-use Rattle.store.specs.declared.places.slot.Slot.{Slot}
+use Rattle.store.specs.declared.places.stored_place.StoredPlace.{StoredPlace}
 use Rattle.store.specs.Slots.{slot_at, slots_with}
 use Rattle.store.specs.Emptying.{IsOf, taken_at}
 use Rattle.store.proofs.Truncating.{taken_next, noted_next, noted_same, all_at}
@@ -14,7 +14,7 @@ pub loop-row-preserved : goal.loop-row-preserved
 loop-row-preserved c =
     let i : ℕ = c.loop-row.row-index in
     let p : List ℕ = c.row-item.result in
-    let taken : Slot = record { row = None; owner = Some c.args.top } in
+    let taken : StoredPlace = record { row = None; owner = Some c.args.top } in
     let at : c.as_slice.result.now ≡ p = c.as_slice.ensures in
     let made : c.note.new.self ≡ slots_with p taken c.loop-row.self = c.in_ok-note.ensures.ok ∙ ap (λ (k : List ℕ). slots_with k taken c.loop-row.self) at in
     let left : drop i c.args.rows.now ≡ p ∷ drop (i + 1) c.args.rows.now =

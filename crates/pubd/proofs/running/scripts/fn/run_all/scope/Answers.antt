@@ -2,7 +2,7 @@ use Rattle.std.proofs.sync.atomic.AtomicBool.TheSendSync as flag
 use Rattle.hub.proofs.Crossing.{crosses}
 use Rattle.pubd.proofs.running.ending.ListenerHandles.TheSendSync as listeners
 use Rattle.pubd.proofs.scripting.file.Script.TheSendSync as script
-use Rattle.pubd.proofs.standard_error.telling.Told.TheSendSync as told
+use Rattle.pubd.proofs.standard_error.error_log.ErrorLog.TheSendSync as told
 use Rattle.pubd.proofs.running.scripts.fn.run_all.scope.Goals as goal
 
 pub spawn-spawned-requires-send-F : goal.spawn-spawned-requires-send-F

@@ -1,7 +1,7 @@
 use Rattle.std.proofs.sync.atomic.AtomicBool.TheSendSync as flag
 use Rattle.hub.proofs.Crossing.{crosses}
-use Rattle.pubd.proofs.running.serving.Service.TheSendSync as service
-use Rattle.pubd.proofs.standard_error.telling.Told.TheSendSync as told
+use Rattle.pubd.proofs.running.serving.ServerParts.TheSendSync as service
+use Rattle.pubd.proofs.standard_error.error_log.ErrorLog.TheSendSync as told
 use Rattle.pubd.proofs.running.serving.fn.serve_beside.scope.Goals as goal
 
 pub spawn-scripted-requires-send-F : goal.spawn-scripted-requires-send-F

@@ -1,8 +1,0 @@
-use denote.RattleType.{RattleType}
-use denote.Param.Send.{IsSend, Frees}
-use Rattle.core.specs.declared.alloc.Allocator.{Ghosts}
-use Rattle.chgarena.proofs.Crosses.{Lease-send}
-use Rattle.chgarena.specs.contracts.memory.Lease.{the_row}
-
-pub send : (A : RattleType) (g : Ghosts A.Denot) → IsSend A → Frees g g.dealloc_token → IsSend (the_row A g)
-send A g s = Lease-send A g

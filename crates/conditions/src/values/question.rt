@@ -1,9 +1,0 @@
-//! What IS asks.
-
-#[derive(Clone, Copy)]
-pub enum Question {
-    Null,
-    True,
-    False,
-    Unknown,
-}

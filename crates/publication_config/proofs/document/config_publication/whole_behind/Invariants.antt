@@ -1,7 +1,0 @@
-use Rattle.std.proofs.Common.{◌≡◌, [], drop, filter}
-use Rattle.publication_config.specs.Config.{has_whole, seen_reach, whole_behind}
-use Rattle.publication_config.proofs.document.config_publication.whole_behind.Given as goal
-
-abbrev pub invariant-loop-table : goal.invariant-loop-table
-invariant-loop-table l =
-    whole_behind l.number l.operations l.published.items (filter (has_whole (seen_reach l.reach)) (drop l.table-index l.tables)) ≡ whole_behind l.number l.operations [] (filter (has_whole (seen_reach l.reach)) l.tables)
