@@ -4,3 +4,9 @@ pub mod Inboxes
 pub mod Names
 pub mod StreamControl
 pub mod StreamErrors
+pub mod Messages
+pub mod Accounts
+pub mod Rights
+pub mod Refusing
+pub mod Turns
+pub mod Guarding

@@ -5,12 +5,16 @@
 //! the stream that has begun a `ConnectionMailbox`. Why it ends is a `ConnectionEnd`, and what it is told then a `StreamError`.
 //! Whoever runs the server hears of its commands by a `ServerObserver`. `Names` makes and drops slots, and a `Hold` is of one
 //! that a stream has claimed. A `Latch` wakes the stream's writing thread; what it writes goes through a `MeteredWriter`, past
-//! the `SlotMonitor` of its slot, where it is looked at and steered (`StreamControl`).
+//! the `SlotMonitor` of its slot, where it is looked at and steered (`StreamControl`). Where passwords are asked, `Users` has those
+//! who may connect, and a `GuardedConnection` hears nothing before the proof of its user's.
 //!
-//! Read `inbox.rt`, `connection_mailbox.rt`, `slot/slot_monitor.rt`. Above, a few contracts are used: what a pool, an inbox or a
-//! mailbox was given comes out, once; as many bytes as a write took came to the writer; a cut passes as many as it says.
+//! Read `inbox.rt`, `connection_mailbox.rt`, `slot/slot_monitor.rt`, `authentication/guarded_connection.rt`. Above, a few contracts
+//! are used: what a pool, an inbox or a mailbox was given comes out, once; as many bytes as a write took came to the writer; a cut
+//! passes as many as it says; before a right proof of the user that the startup names, nothing but the startup and its messages is
+//! answered, and the connection hears nothing (specs: `IsTurn`).
 #![tactic(auto)]
 
+mod authentication;
 mod connection_mailbox;
 mod fault;
 mod inbox;
@@ -20,6 +24,13 @@ mod slot;
 mod socket;
 mod words;
 
+pub use authentication::guarded_connection::GuardedConnection;
+pub use authentication::nonce::{NONCE_BYTES, nonce_of};
+pub use authentication::password_message::{MOST_PASSWORD_BYTES, PASSWORD};
+pub use authentication::sasl::AUTHENTICATION;
+pub use authentication::turn::passes_only_by_proof;
+pub use authentication::user_lines::{BadUserLine, UserLineFault, users_in};
+pub use authentication::users::{SECRET_BYTES, User, Users};
 pub use connection_mailbox::ConnectionMailbox;
 pub use fault::{AcceptError, ConnectionEnd, ConnectionRefusal};
 pub use inbox::{Inbox, Work};

@@ -4,7 +4,7 @@ ghost use Rattle.std.specs.Prelude.{◌≡◌, IfOk};
 ghost use Rattle.server_state.specs.Ending.{HasBegun};
 
 use crate::listener_handle::ListenerHandle;
-use authentication::User;
+use connections::User;
 use pqformat::Items;
 use server_state::{
     HubBuilder, HubFault, HubStatus, ServerState, SteerFault, Transaction, Writing,

@@ -17,7 +17,7 @@ use Rattle.slots.specs.declared.rule.SlotName as slot_name
 use Rattle.slots.proofs.table.SlotTable.TheSendSync as slots
 use Rattle.txlog.proofs.publisher.Publisher.TheSendSync as publisher
 use Rattle.connections.proofs.Crossing.{latch_sync, monitor_sync, sockets_sync}
-use Rattle.authentication.proofs.users.Users.TheSendSync as users
+use Rattle.connections.proofs.authentication.users.Users.TheSendSync as users
 use Rattle.server_state.specs.contracts.server_state.ServerState as server_state
 use Rattle.server_state.specs.contracts.opening.system.SystemName as system
 use Rattle.server_state.proofs.opening.settings.HubSettings.TheSendSync as settings

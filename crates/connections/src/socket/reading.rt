@@ -3,8 +3,8 @@
 ghost use Rattle.std.specs.Prelude.{◌≡◌, Err, Ok};
 ghost use Rattle.std.specs.IoError.{error_kind};
 
+use crate::authentication::guarded_connection::GuardedConnection;
 use crate::fault::ConnectionEnd;
-use authentication::GuardedConnection;
 use frames::TERMINATE;
 use server::Phase;
 use std::io;

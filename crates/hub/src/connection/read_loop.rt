@@ -1,14 +1,15 @@
 //! The reading thread of a connection: bytes in, words to the mailbox.
 
 ghost use Rattle.std.specs.Prelude.{◌≡◌};
-ghost use Rattle.authentication.specs.Guarding.{guarded_phase};
+ghost use Rattle.connections.specs.Guarding.{guarded_phase};
 
 use crate::connection::backend::HubBackend;
 use crate::connection::session_copies::SessionCopies;
 use crate::stream::new_stream::NewStream;
-use authentication::GuardedConnection;
 use bytes::BytesMut;
-use connections::{Came, ConnectionEnd, ConnectionMailbox, Patience, ServerObserver, read_more};
+use connections::{
+    Came, ConnectionEnd, ConnectionMailbox, GuardedConnection, Patience, ServerObserver, read_more,
+};
 use pqformat::Text;
 use server::Phase;
 use server_state::ServerState;

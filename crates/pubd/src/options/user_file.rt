@@ -1,6 +1,6 @@
 //! `--passwords FILE`: who may connect.
 
-use authentication::{BadUserLine, SECRET_BYTES, User, UserLineFault, Users, users_in};
+use connections::{BadUserLine, SECRET_BYTES, User, UserLineFault, Users, users_in};
 use pqformat::Items;
 use std::alloc::{AllocError, Global};
 use std::fs::{File, Files};

@@ -1,9 +1,8 @@
 //! Connections whose users haven't proved their passwords yet, where passwords are asked.
 
 use crate::server_state::ServerState;
-use authentication::{GuardedConnection, NONCE_BYTES, User, nonce_of};
 use bytes::BytesMut;
-use connections::ConnectionEnd;
+use connections::{ConnectionEnd, GuardedConnection, NONCE_BYTES, User, nonce_of};
 use pqformat::{Items, Text};
 use server::ConnFault;
 use shared_log::LogName;

@@ -1,3 +1,0 @@
-pub mod Messages
-pub mod Turning
-pub mod Proving
