@@ -111,6 +111,9 @@ impl Reorder {
             (λ step. (rs : List Logged) → HasTaken self.old rs → MayCome rs next.now.body →
             FillsReady self.new step) }
         ensures memory { result ≡ Err ReorderFault.Memory → self.old.failed ≡ false }
+        ensures filled { result ≡ Err ReorderFault.Full →
+            fills self.new.strands.pool.arena ≡ length self.new.strands.pool.arena }
+        ensures size { length self.new.strands.pool.arena ≡ length self.old.strands.pool.arena }
         ensures lent { StaysLent self.old.strands.pool self.new.strands.pool }
         ensures apart { IfOk result
             (λ step. (lent : List (ℕ × Option ℕ)) → IsLent self.old.strands.pool lent →
@@ -155,6 +158,9 @@ impl Reorder {
             (λ step. (rs : List Logged) → HasTaken self.old rs → MayCome rs next.now.body →
             FillsReady self.new step) }
         ensures running { result ≢ Err ReorderFault.Failed }
+        ensures filled { result ≡ Err ReorderFault.Full →
+            fills self.new.strands.pool.arena ≡ length self.new.strands.pool.arena }
+        ensures size { length self.new.strands.pool.arena ≡ length self.old.strands.pool.arena }
         ensures lent { StaysLent self.old.strands.pool self.new.strands.pool }
         ensures apart { IfOk result
             (λ step. (lent : List (ℕ × Option ℕ)) → IsLent self.old.strands.pool lent →

@@ -97,6 +97,7 @@ impl Strands {
         ensures there { OnOk result (IsSome (lookup (λ k. xid == k) self.new.strands)) }
         ensures tidy { OnOk result (StaysTidy self.old self.new) }
         ensures lent { StaysLent self.old.pool self.new.pool }
+        ensures size { length self.new.pool.arena ≡ length self.old.pool.arena }
     {
         if self.strands.contains_key(&xid) {
             return Ok(());
@@ -111,6 +112,7 @@ impl Strands {
         ensures there { OnOk result (IsSome (lookup (λ k. xid == k) self.new.strands)) }
         ensures tidy { OnOk result (StaysTidy self.old self.new) }
         ensures lent { StaysLent self.old.pool self.new.pool }
+        ensures size { length self.new.pool.arena ≡ length self.old.pool.arena }
     {
         self.members.insert(xid, Members::of(xid))?;
         self.strands
@@ -129,6 +131,9 @@ impl Strands {
         ensures tidy { OnOk result
             (IsSome (lookup (λ k. xid == k) self.old.strands) → StaysTidy self.old self.new) }
         ensures lent { StaysLent self.old.pool self.new.pool }
+        ensures size { length self.new.pool.arena ≡ length self.old.pool.arena }
+        ensures filled { result ≡ Err ReorderFault.Full →
+            fills self.new.pool.arena ≡ length self.new.pool.arena }
         ensures full { result ≡ Err ReorderFault.Full →
             HasNoRoom self.old.pool xid (length entry.now) }
         ensures running { result ≢ Err ReorderFault.Failed }
@@ -141,6 +146,7 @@ impl Strands {
         ensures undone { IsSame (by_xid self.new) (after_rollback_of xid (by_xid self.old)) }
         ensures tidy { StaysTidy self.old self.new }
         ensures lent { StaysLent self.old.pool self.new.pool }
+        ensures size { length self.new.pool.arena ≡ length self.old.pool.arena }
     {
         self.give_back_under(xid);
         self.pool.give_back(xid);
@@ -180,6 +186,7 @@ impl Strands {
             (IsSame (by_xid self.new) (with_subtransaction sub parent (by_xid self.old))) }
         ensures tidy { OnOk result (StaysTidy self.old self.new) }
         ensures lent { StaysLent self.old.pool self.new.pool }
+        ensures size { length self.new.pool.arena ≡ length self.old.pool.arena }
     {
         let above = self.chain(parent)?;
         let top = last_or(parent, above.as_slice());
@@ -206,6 +213,7 @@ impl Strands {
         ensures ended { IsSame (by_xid self.new) (without_transaction top (by_xid self.old)) }
         ensures tidy { StaysTidy self.old self.new }
         ensures lent { StaysLent self.old.pool self.new.pool }
+        ensures size { length self.new.pool.arena ≡ length self.old.pool.arena }
     {
         if let Some(members) = self.members.remove(&top) {
             remove_all(&mut self.strands, members.as_slice());
@@ -233,6 +241,7 @@ impl Strands {
             ≡ sum_by (λ x. chunks_for (changes_at self.old.pool x))
             (all_in ((by_xid self.old).members top))) }
         ensures lent { StaysLent self.old.pool self.new.pool }
+        ensures size { length self.new.pool.arena ≡ length self.old.pool.arena }
     {
         let order = self.order(top)?;
         let members = remove_members(self.alloc, &mut self.members, top);

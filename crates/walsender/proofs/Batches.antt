@@ -17,8 +17,9 @@ use Rattle.wal.specs.declared.record.Body.TheVariants.{Assign, Change as Changed
 use Rattle.tables.specs.declared.changes.change.Change.{Change}
 use Rattle.wal.specs.Log.{note_as_transaction, committed_at, committed_from, end_of}
 use Rattle.wal.proofs.Laws.{end_of-append, committed_from-append}
+use Rattle.chgarena.specs.Strands.{fills}
 use Rattle.reorder.specs.Chunks.{LeavesNoRoom}
-use Rattle.reorder.specs.Taking.{HasTaken, MayCome, StartsBehind, promised_changes}
+use Rattle.reorder.specs.Taking.{HasTaken, MayCome, ReorderState, StartsBehind, promised_changes}
 use Rattle.publication.specs.Selection.{relation}
 use Rattle.pgoutput.specs.declared.messages.relation.Relation.{Relation}
 use Rattle.pgoutput.specs.declared.published.Published.{Published}
@@ -26,7 +27,7 @@ use Rattle.pgoutput.specs.Words.{word_bytes, frames_of}
 use Rattle.pgoutput.specs.Items.{Block, FitsPublished, words_of, item_words, bytes_of_items, relations_sent_by_all, relations_sent_through}
 use Rattle.walsender.specs.Published.{published_transactions, published_as, published_from, published_note, has_message}
 use Rattle.walsender.specs.Lent.{AreLastOf, LentTransaction, sent_transactions}
-use Rattle.walsender.specs.Sending.{SenderState, MayFollow, HasChunks, HasRead, HasRoom, LacksRoom, blocks, published_bytes, published_by_record, sent_by_record, ReadOne, ReadAll, RanOut, OutputUnchanged, AddsPublished}
+use Rattle.walsender.specs.Sending.{SenderState, Fills, IsFilled, MayFollow, HasChunks, HasRead, HasRoom, LacksRoom, blocks, published_bytes, published_by_record, sent_by_record, ReadOne, ReadAll, RanOut, OutputUnchanged, AddsPublished}
 use Rattle.walsender.proofs.Lasting.{last_more, last_then, sent_by_record_is, sent_from-append}
 
 -- ---- items after items
@@ -253,3 +254,11 @@ module _ (clock : ℤ) (old mid : SenderState) (records : List (Arc Record Globa
       position = place;
       room = λ before count has may held none. let s = stops before has may in some (before ++ take i all) count s.0.running s.0.taken s.1 s.2 (chunks count held) none;
     }
+
+  -- for which the arena was full
+  module _ (stopped new : SenderState) (reorder : new.reorder ≡ stopped.reorder) (lent : new.lent ≡ stopped.lent) (chunks : (count : ℕ) → HasChunks old count → HasChunks mid count) where
+    pub fills_all : ((rs : List Record) (count : ℕ) → HasTaken mid.reorder rs → MayCome rs r.body → HasChunks mid count → IsFilled stopped) → Fills old new all
+    fills_all full before count has may held =
+        let s = stops before has may in
+        let is = full (before ++ take i all) count s.0.taken s.1 (chunks count held) in
+        record { all = subst (λ (m : ReorderState). fills m.strands.pool.arena ≡ length m.strands.pool.arena) (sym reorder) is.all; alone = lent ∙ is.alone }

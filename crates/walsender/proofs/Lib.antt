@@ -31,3 +31,4 @@ pub mod Noted
 pub mod Told
 pub mod Taken
 pub mod States
+pub mod Sized

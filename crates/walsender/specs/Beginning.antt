@@ -28,3 +28,7 @@ questions (Err (faults.Claim fault)) = FindsSlot true ∷ Judges None ∷ TakesR
 abbrev pub AreAsked : {D : Type 0} → (D → Question → D → Type 0) → D → List Question → D → Type 0
 AreAsked told old [] new = new ≡ old
 AreAsked {D} told old (question ∷ rest) new = (mid : D) × told old question mid × AreAsked told mid rest new
+
+-- once the other questions were asked, this was granted
+abbrev pub IsGranted : {D G : Type 0} → (D → Question → D → Type 0) → (D → G → Type 0) → D → G → Type 0
+IsGranted {D} told granted old grant = (mid : D) × AreAsked told old (FindsSlot true ∷ Judges None ∷ TakesReader true ∷ []) mid × granted mid grant

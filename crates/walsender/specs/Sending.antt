@@ -7,6 +7,7 @@ use Rattle.wal.specs.declared.record.Record.{Record}
 use Rattle.wal.specs.declared.record.Body.{Body}
 use Rattle.wal.specs.declared.record.Body.TheVariants.{Commit, Note}
 use Rattle.wal.specs.Log.{Entry, Transaction, end_of}
+use Rattle.chgarena.specs.Strands.{fills}
 use Rattle.reorder.specs.Chunks.{IsTidy, LeavesNoRoom, live_chunks, transaction_chunks}
 use Rattle.reorder.specs.Taking.{ReorderState, HasTaken, MayCome, StartsBehind, Takes}
 use Rattle.publication.specs.Selection.{relation}
@@ -86,6 +87,23 @@ pub record LeavesChunks (s : SenderState) (chunks : ℕ) (rs : List Record) (fre
   pub all : free + live_chunks rs + sum_by (λ (t : LentTransaction). t.chunks) s.lent ≡ chunks
   pub sent : AreLastOf s.lent (sent_transactions s.selection rs s.start)
   pub held : AreHeld s.held s.lent
+
+-- the arena has so many chunks, whatever lies in them
+abbrev pub HasSize : SenderState → ℕ → Type 0
+HasSize s count = length s.reorder.strands.pool.arena ≡ count
+
+-- So many chunks are free, also after a refusal: all but those that are taken once all that is held has gone out, and those of what is held.
+abbrev pub LeavesFree : SenderState → ℕ → Type 0
+LeavesFree s free = free + fills s.reorder.strands.pool.arena + sum_by (λ (t : LentTransaction). t.chunks) s.lent ≡ length s.reorder.strands.pool.arena
+
+-- the changes of transactions in progress have taken all chunks, and nothing that is held has one
+pub record IsFilled (s : SenderState) : Type 0 where
+  pub all : fills s.reorder.strands.pool.arena ≡ length s.reorder.strands.pool.arena
+  pub alone : s.lent ≡ []
+
+-- where these records might come, into an arena with nothing in it but what transactions in progress changed, it is full now
+abbrev pub Fills : SenderState → SenderState → List Record → Type 0
+Fills old new rs = (before : List Record) (chunks : ℕ) → HasRead old before → MayFollow before rs → HasChunks old chunks → IsFilled new
 
 -- After those of these records that were read, which the position tells, stands a change for which no chunk was left.
 pub record LacksRoom (old new : SenderState) (rs : List Record) : Type 0 where

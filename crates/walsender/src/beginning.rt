@@ -1,14 +1,15 @@
 //! How a stream begins: what is asked for it, in which order, and why it is refused.
 
-ghost use Rattle.walsender.specs.Beginning.{AreAsked, questions};
+ghost use Rattle.std.specs.Prelude.{IfOk};
+ghost use Rattle.walsender.specs.Beginning.{AreAsked, IsGranted, questions};
 
 use publication_config::PubFault;
 use slots::SlotFault;
 
 /// Whoever has the slots, the publications and the readers of which a stream is made, for one START. `told` is what a question with
-/// its answer says of it before and after; who tells nothing says `Unit`.
+/// its answer says of it before and after, and `granted` what is granted to the one that asks; who tells nothing says `Unit`.
 pub trait StartBackend {
-    ghost use Rattle.std.specs.Prelude.{is_some};
+    ghost use Rattle.std.specs.Prelude.{IfOk, is_some};
     ghost use Rattle.walsender.specs.Beginning.{Question, FindsSlot, Judges, TakesReader, Claims, fault_of};
 
     /// A slot that is there.
@@ -19,6 +20,8 @@ pub trait StartBackend {
     type Grant;
 
     ghost told: { Self → Question → Self → Type 0 };
+
+    ghost granted: { Self → Self.Grant → Type 0 };
 
     /// The slot that the stream is for; None where it isn't there.
     fn find_slot(&mut self) -> Option<Self::Slot>
@@ -36,7 +39,8 @@ pub trait StartBackend {
     /// Claims the slot, and then makes what needs memory; or answers why not. Where it is refused, the reader is free again,
     /// and so is the slot.
     fn claim(&mut self, slot: Self::Slot, reader: Self::Reader) -> Result<Self::Grant, ClaimFault>
-        ensures { told self.old (Claims (fault_of result)) self.new };
+        ensures told { told self.old (Claims (fault_of result)) self.new }
+        ensures grant { IfOk result (granted self.old) };
 }
 
 /// Why a slot isn't claimed for a stream.
@@ -67,7 +71,8 @@ pub enum StartFault {
 /// `Publication` where one is unknown (P1) or lists differ (P2), `NoReader` (L6) where no reader is free, and then `Claim`,
 /// where the slot is held (L2), the log doesn't give what is needed, or memory is refused. Nothing is asked after a refusal.
 pub fn begin<D: StartBackend>(backend: &mut D) -> Result<D::Grant, StartFault>
-    ensures { AreAsked D.told backend.old (questions result) backend.new }
+    ensures asked { AreAsked D.told backend.old (questions result) backend.new }
+    ensures grant { IfOk result (IsGranted D.told D.granted backend.old) }
 {
     let Some(slot) = backend.find_slot() else {
         return Err(StartFault::NoSlot);

@@ -5,7 +5,7 @@ ghost use Rattle.wal.specs.Records.{shared_records};
 ghost use Rattle.reorder.specs.Chunks.{LeavesNoRoom};
 ghost use Rattle.reorder.specs.Taking.{HasTaken, MayCome, StartsBehind};
 ghost use Rattle.wal.specs.declared.record.Record.{Record as Logged};
-ghost use Rattle.walsender.specs.Sending.{HasChunks, HasRoom, IsOut, LacksRoom, ReadAll, RanOut, OutputUnchanged, ReadOne};
+ghost use Rattle.walsender.specs.Sending.{Fills, HasChunks, HasRoom, HasSize, IsFilled, IsOut, LacksRoom, ReadAll, RanOut, OutputUnchanged, ReadOne};
 
 use crate::fault::SendFault;
 use crate::sender::Sender;
@@ -24,8 +24,11 @@ impl Sender {
             LacksRoom self.old self.new (shared_records records.now) }
         ensures left { result ≡ Err SendFault.Memory →
             HasRoom self.old self.new (shared_records records.now) }
+        ensures filled { result ≡ Err SendFault.ArenaFull →
+            Fills self.old self.new (shared_records records.now) }
         ensures chunks { OnOk result
             ((count : ℕ) → HasChunks self.old count → HasChunks self.new count) }
+        ensures size { (count : ℕ) → HasSize self.old count → HasSize self.new count }
     {
         for record in records {
             match self.take(record, clock) {
@@ -50,8 +53,12 @@ impl Sender {
             self.old.reorder.failed ≡ false → HasTaken self.old.reorder rs →
             MayCome rs next.now.value.body → StartsBehind rs next.now.value →
             HasChunks self.old count → LeavesNoRoom count rs next.now.value → ⊥ }
+        ensures filled { result ≡ Err SendFault.ArenaFull → (rs : List Logged) (count : ℕ) →
+            HasTaken self.old.reorder rs → MayCome rs next.now.value.body →
+            HasChunks self.old count → IsFilled self.new }
         ensures chunks { OnOk result
             ((count : ℕ) → HasChunks self.old count → HasChunks self.new count) }
+        ensures size { (count : ℕ) → HasSize self.old count → HasSize self.new count }
         ensures failed { self.new.failed ≡ self.old.failed }
     {
         self.outgoing.give_way(&self.selection, &mut self.reorder)?;

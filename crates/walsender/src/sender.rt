@@ -6,7 +6,7 @@ ghost use Rattle.wal.specs.Records.{shared_records};
 ghost use Rattle.pgoutput.specs.Words.{word_bytes};
 ghost use Rattle.pgoutput.specs.Items.{keepalive_word};
 ghost use Rattle.walsender.specs.Lent.{AreLastOf};
-ghost use Rattle.walsender.specs.Sending.{HasChunks, HasRead, HasRoom, LacksRoom, LeavesChunks, ReadAll, RanOut};
+ghost use Rattle.walsender.specs.Sending.{Fills, HasChunks, HasRead, HasRoom, HasSize, LacksRoom, LeavesChunks, LeavesFree, ReadAll, RanOut};
 ghost use Rattle.wal.specs.declared.record.Record.{Record as Logged};
 
 use crate::ended::Ended;
@@ -116,8 +116,11 @@ impl Sender {
             LacksRoom self.old self.new (shared_records records.now) }
         ensures left { result ≡ Err SendFault.Memory →
             HasRoom self.old self.new (shared_records records.now) }
+        ensures filled { result ≡ Err SendFault.ArenaFull →
+            Fills self.old self.new (shared_records records.now) }
         ensures chunks { OnOk result
             ((count : ℕ) → HasChunks self.old count → HasChunks self.new count) }
+        ensures size { (count : ℕ) → HasSize self.old count → HasSize self.new count }
         ensures memory { result ≡ Err SendFault.Memory →
             RanOut clock self.old self.new (shared_records records.now) }
         ensures failed { (result ≡ Err SendFault.Failed) ↔ (self.old.failed ≡ true) }
@@ -186,10 +189,12 @@ impl Sender {
     }
 
     /// How many chunks of the arena are free: all but those that changes of transactions in progress fill, savepoints that were rolled
-    /// back left out, and those of the last committed transactions, of each of which at least the Commit is held whole.
+    /// back left out, and those of the last committed transactions, of each of which at least the Commit is held whole. After a
+    /// full arena (G1) there are none.
     pub fn free_chunks(&self) -> usize
-        ensures { (rs : List Logged) (count : ℕ) → HasRead self.now rs → HasChunks self.now count →
-            LeavesChunks self.now count rs result }
+        ensures exact { (rs : List Logged) (count : ℕ) → HasRead self.now rs →
+            HasChunks self.now count → LeavesChunks self.now count rs result }
+        ensures free { LeavesFree self.now result }
     {
         self.reorder.free_chunks()
     }

@@ -13,7 +13,7 @@ ghost use Rattle.shared_log.specs.Readers.{HasSeen, seen_of};
 ghost use Rattle.shared_log.specs.declared.fault.ReadFault.{ReadFault};
 ghost use Rattle.walsender.specs.Faults.{fault_of_fetch, has_fetched, has_written};
 ghost use Rattle.walsender.specs.Lent.{AreLastOf};
-ghost use Rattle.walsender.specs.Sending.{HasChunks, HasRead, LeavesChunks};
+ghost use Rattle.walsender.specs.Sending.{HasChunks, HasRead, LeavesChunks, LeavesFree};
 ghost use Rattle.walsender.specs.Turning.{fetched_from};
 ghost use Rattle.walsender.specs.Serving.{BeginsAt, Gives, GoesOn, Reads, ReadsAndWrites, ReadsOn, Serves, StaysOn, WritesFirst, next_records};
 
@@ -83,10 +83,12 @@ impl<L: LogName> Walsender<L> {
     }
 
     /// How many chunks of its arena are free: all but those that changes of transactions in progress fill, savepoints that were rolled
-    /// back left out, and those of the last committed transactions, of each of which at least the Commit is held whole.
+    /// back left out, and those of the last committed transactions, of each of which at least the Commit is held whole. After a
+    /// full arena (G1) there are none.
     pub fn free_chunks(&self) -> usize
-        ensures { (rs : List Record) (count : ℕ) → HasRead self.now.sender rs →
+        ensures exact { (rs : List Record) (count : ℕ) → HasRead self.now.sender rs →
             HasChunks self.now.sender count → LeavesChunks self.now.sender count rs result }
+        ensures free { LeavesFree self.now.sender result }
     {
         self.sender.free_chunks()
     }

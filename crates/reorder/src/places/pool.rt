@@ -83,6 +83,9 @@ impl Pool {
         ensures whole { OnOk result (StaysWhole self.old self.new) }
         ensures lent { StaysLent self.old self.new }
         ensures full { result ≡ Err ReorderFault.Full → HasNoRoom self.old xid (length entry.now) }
+        ensures filled { result ≡ Err ReorderFault.Full →
+            fills self.new.arena ≡ length self.new.arena }
+        ensures size { length self.new.arena ≡ length self.old.arena }
         ensures running { result ≢ Err ReorderFault.Failed }
     {
         self.open(xid)?;
@@ -97,6 +100,7 @@ impl Pool {
         ensures same { OnOk result ((x : ℕ) → entries_at self.new x ≡ entries_at self.old x) }
         ensures place { OnOk result (IsSome (strand_of self.new.strands xid)) }
         ensures arena { OnOk result (self.new.arena ≡ self.old.arena) }
+        ensures size { length self.new.arena ≡ length self.old.arena }
         ensures whole { OnOk result (StaysWhole self.old self.new) }
         ensures lent { StaysLent self.old self.new }
         ensures pool { IsPool self.old.arena self.old.strands }

@@ -57,6 +57,8 @@ impl Outgoing {
             ++ lent_by_step
             (published_by_record selection.now start next.now (readied_changes reorder.old step))
             reorder.old step) }
+        ensures size { length reorder.new.strands.pool.arena
+            ≡ length reorder.old.strands.pool.arena }
         ensures running { reorder.new.failed ≡ reorder.old.failed }
         ensures change { (xid : ℕ) (change : Change) → next.now.body ≡ Changed xid change →
             step ≡ steps.Quiet → IsOk result }
@@ -153,6 +155,8 @@ impl Outgoing {
             ++ map (lent_with (ready_chunks reorder.old.strands.pool.arena ready))
             (published_by_record selection.now start next.now
             (Some (ready_entries reorder.old.strands.pool ready)))) }
+        ensures size { length reorder.new.strands.pool.arena
+            ≡ length reorder.old.strands.pool.arena }
         ensures running { reorder.new.failed ≡ reorder.old.failed }
     {
         match judge(selection, start, next, reorder, &mut ready) {
@@ -188,6 +192,8 @@ impl Outgoing {
             ++ lent_with (ready_chunks reorder.old.strands.pool.arena ready)
             (published_with selection.now (ready_entries reorder.old.strands.pool ready) header)
             ∷ []) }
+        ensures size { length reorder.new.strands.pool.arena
+            ≡ length reorder.old.strands.pool.arena }
         ensures running { reorder.new.failed ≡ reorder.old.failed }
     {
         match self.commit(selection, ready, header, clock) {

@@ -304,6 +304,8 @@ impl<'m, L: SlotName> StartBackend for StartFacts<'m, L> {
 
     ghost told = { Told };
 
+    ghost granted = { λ facts grant. Unit {0} };
+
     fn find_slot(&mut self) -> Option<()> {
         if is_missing(self.slots, self.slot) {
             return None;

@@ -11,6 +11,7 @@ use Rattle.walsender.specs.Waiting.{ready_states}
 use Rattle.walsender.proofs.GivingWay.{lacks_room_alone, lacks_room_beside, read_after, running_then, taken_then, tidy_then}
 use Rattle.walsender.proofs.Lent.{keeps_lent}
 use Rattle.walsender.proofs.Noting.{on_err}
+use Rattle.walsender.proofs.Sized.{filled_alone, none_waits, size_settled}
 use Rattle.walsender.proofs.Taken.{lent_step, quiet_of, read_one, tidy_step}
 use Rattle.walsender.proofs.sender.Sender.take.Goals as goal
 
@@ -121,3 +122,43 @@ returns-clause-chunks c =
     (tidy_step g.reorder c.take.new.self ws c.in-Ok.step count c.give_way.ensures.same.good.lent
     (lent_step g.reorder c.take.new.self ws c.in-Ok.step c.give_way.ensures.same.good.lent c.take.ensures.lent c.in-Ok.ensures.held c.in-Ok.ensures.apart)
     c.in-Ok.ensures.tidy (tidy_then i.selection i.reorder g.reorder i.outgoing g.self c.give_way.ensures.same count tidy)))
+
+-- the arena
+
+pub returns-in-Err-clause-filled : goal.returns-in-Err-clause-filled
+returns-in-Err-clause-filled c = λ is.
+    let i = c.self.inside in
+    let g = c.give_way.new in
+    let ws = ready_states g.self.waiting.items in
+    let told : c.refusal_of.result ≡ SendFault.ArenaFull = cc in
+    let full : c.take.result ≡ Err ReorderFault.Full = c.in-Err.is ∙ ap Err (c.refusal_of.ensures.full told) in
+    rw (← c.self.view_is) (λ rs count taken may tidy.
+    filled_alone i.selection i.start i.position i.failed _ _ c.take.new.self g.self
+    (none_waits i.selection i.reorder g.reorder i.outgoing g.self c.give_way.ensures.same rs count c.args.next.now.value c.in_ok-give_way.ensures.free taken tidy
+    (λ taken_then tidy_then. subst (λ (r : Record). LeavesNoRoomBeside (lent_chunks g.reorder ws) count rs r) c.deref.ensures
+    (c.take.ensures.full_beside full rs ws count taken_then (subst (λ (r : Record). MayCome rs r.body) (sym c.deref.ensures) may) c.give_way.ensures.same.good.lent tidy_then)))
+    (c.take.ensures.filled full))
+
+pub returns-in_err-give_way-clause-size : goal.returns-in_err-give_way-clause-size
+returns-in_err-give_way-clause-size c =
+    let i = c.self.inside in
+    let g = c.give_way.new in
+    rw (← c.self.view_is) (λ count has. size_settled i.selection i.reorder g.reorder g.reorder i.outgoing g.self g.self c.give_way.ensures.same refl ∙ has)
+
+pub returns-in-Err-clause-size : goal.returns-in-Err-clause-size
+returns-in-Err-clause-size c =
+    let i = c.self.inside in
+    let g = c.give_way.new in
+    rw (← c.self.view_is) (λ count has. size_settled i.selection i.reorder g.reorder c.take.new.self i.outgoing g.self g.self c.give_way.ensures.same c.take.ensures.size ∙ has)
+
+pub returns-in_err-add_record-in-Ok-clause-size : goal.returns-in_err-add_record-in-Ok-clause-size
+returns-in_err-add_record-in-Ok-clause-size c =
+    let i = c.self.inside in
+    let g = c.give_way.new in
+    rw (← c.self.view_is) (λ count has. size_settled i.selection i.reorder g.reorder c.add_record.new.reorder i.outgoing g.self c.add_record.new.self c.give_way.ensures.same (c.add_record.ensures.size ∙ c.take.ensures.size) ∙ has)
+
+pub returns-clause-size : goal.returns-clause-size
+returns-clause-size c =
+    let i = c.self.inside in
+    let g = c.give_way.new in
+    rw (← c.self.view_is) (λ count has. size_settled i.selection i.reorder g.reorder c.add_record.new.reorder i.outgoing g.self c.add_record.new.self c.give_way.ensures.same (c.add_record.ensures.size ∙ c.take.ensures.size) ∙ has)

@@ -15,6 +15,7 @@ returns-in_ok-insert c = record {
   same = λ x. rw (← c.self.view_is) (entries_opened c.args.xid c.self.inside.arena c.self.inside.strands.entries c.insert.new.self.entries (search rules) (λ y. rw (← c.strand.ensures) (c.in_ok-insert.ensures.updates.0 y)) x);
   place = search rules;
   arena = search rules;
+  size = rw (← c.self.view_is) refl;
   pool = rw (← c.self.view_is) c.self.invariant.0;
   hold = rw (← c.self.view_is) c.self.invariant.1;
   whole = rw (← c.self.view_is) (record { chunks = refl; whole = whole_opened c.self.inside.arena c.self.inside.strands.entries c.insert.new.self.entries c.args.xid (search rules) (λ y. rw (← c.strand.ensures) (c.in_ok-insert.ensures.updates.0 y)) });

@@ -53,3 +53,11 @@ returns-clause-lent c = elim c.match-push_at.branch [
       (subst (λ (p : PoolState). StaysLent p (of c.push_at.new.arena c.push_at.new.strands.entries)) c.self.view_is
       (rw w.in-Err.ensures.err.0 (lent_same c.args.xid c.self.inside.arena c.self.inside.strands.entries c.push_at.new.strands.entries w.in-Err.ensures.err.1)))
 ]
+
+pub returns-clause-size : goal.returns-clause-size
+returns-clause-size c =
+    let before = ap (λ (p : PoolState). length p.arena) c.self.view_is ∙ c.open.ensures.size in
+    elim c.match-push_at.branch [
+      | in-Ok w ↦ pushed_chunks c.args.xid c.args.entry.now c.self.inside.arena c.push_at.new.arena c.self.inside.strands.entries c.push_at.new.strands.entries w.in-Ok.ensures.ok ∙ before
+      | in-Err w ↦ ap length w.in-Err.ensures.err.0 ∙ before
+    ]

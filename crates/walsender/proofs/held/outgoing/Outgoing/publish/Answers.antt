@@ -6,6 +6,7 @@ use Rattle.walsender.specs.Outgoing.{settled_of}
 use Rattle.walsender.specs.Waiting.{ready_states}
 use Rattle.walsender.proofs.Committing.{none_grows, none_lent, unqueued_taken, unqueued_tidy}
 use Rattle.walsender.proofs.Lent.{lent_first}
+use Rattle.walsender.proofs.Sized.{size_given_back}
 use Rattle.walsender.proofs.held.outgoing.Outgoing.publish.Goals as goal
 
 pub judge-requires : goal.judge-requires
@@ -36,3 +37,7 @@ returns-in-None-clause-lent c =
     let value = rw c.in-None.is at c.judge.ensures.value in
     let l = none_lent c.args.selection.now c.args.reorder.now c.finish.new.self c.args.self.now c.args.ready c.args.clock c.requires.good c.requires.lent (subst (λ (r : ReadyState). c.finish.new.self ≡ after_giving_back c.args.reorder.now r) c.judge.ensures.ready c.finish.ensures.exact) in
     rw (← value) l
+
+pub returns-in-None-clause-size : goal.returns-in-None-clause-size
+returns-in-None-clause-size c =
+    size_given_back c.args.reorder.now c.finish.new.self c.args.ready (subst (λ (r : ReadyState). c.finish.new.self ≡ after_giving_back c.args.reorder.now r) c.judge.ensures.ready c.finish.ensures.exact)

@@ -7,6 +7,7 @@ use Rattle.walsender.specs.Waiting.{ready_states}
 use Rattle.walsender.proofs.Committing.{lent_queued, queue_grows, queue_taken, refused_grows, refused_taken, refused_tidy}
 use Rattle.walsender.proofs.Lent.{lent_first}
 use Rattle.walsender.proofs.Queueing.{places_low}
+use Rattle.walsender.proofs.Sized.{size_given_back}
 use Rattle.walsender.proofs.held.outgoing.Outgoing.queue.Goals as goal
 
 pub commit-requires : goal.commit-requires
@@ -48,3 +49,7 @@ pub returns-in-Err-clause-tidy : goal.returns-in-Err-clause-tidy
 returns-in-Err-clause-tidy c =
     let back : c.finish.new.self ≡ after_giving_back c.args.reorder.now c.args.ready = c.finish.ensures.exact ∙ ap (after_giving_back c.args.reorder.now) c.in-Err.ensures.err.0 in
     refused_tidy c.args.selection.now c.args.reorder.now c.finish.new.self c.args.self.now c.args.ready c.args.clock c.requires.good c.requires.lent back c.commit.new.self c.in-Err.ensures.err.1
+
+pub returns-in-Err-clause-size : goal.returns-in-Err-clause-size
+returns-in-Err-clause-size c =
+    size_given_back c.args.reorder.now c.finish.new.self c.args.ready (c.finish.ensures.exact ∙ ap (after_giving_back c.args.reorder.now) c.in-Err.ensures.err.0)
