@@ -12,6 +12,7 @@ use Rattle.publication.specs.Choosing.{selected_publications}
 use Rattle.replcmd.specs.declared.clauses.setting.StreamOptions.{StreamOptions}
 use Rattle.shared_log.specs.Readers.{seen_of}
 use Rattle.walsender.specs.declared.walsender.Walsender.{Walsender}
+use Rattle.walsender.specs.Sending.{HasChunks, SenderState}
 use Rattle.walsender.specs.Serving.{Gives, GoesOn}
 
 -- what a START asks for: what its names select, with the messages of the log where its options ask for them
@@ -22,6 +23,18 @@ asked_for publications names options = record (selected_publications publication
 abbrev pub HasChunksSet : (chunks : ℕ) → (was_full : Bool) → Arena → Type 0
 HasChunksSet chunks was_full arena =
     (arena ≡ replicate (length arena) None) × (chunks ≤ length arena) × (was_full ≡ false → length arena ≡ chunks)
+
+-- What a START was granted: what it asked for, from its position on or from a later one that its slot had confirmed, and an arena.
+pub record IsStarted (asked : PublicationSet) (position chunks : ℕ) (selection : PublicationSet) (start : ℕ) (arena : Arena) : Type 0 where
+  pub selects : selection ≡ asked
+  pub begins : position ≤ start
+  pub room : (was_full : Bool) × HasChunksSet chunks was_full arena
+
+-- a stream that has read nothing stands so
+pub record BeginsAs (asked : PublicationSet) (position chunks : ℕ) (s : SenderState) : Type 0 where
+  pub selection : s.selection ≡ asked
+  pub start : position ≤ s.start
+  pub room : (count : ℕ) × (chunks ≤ count) × HasChunks s count
 
 -- so many keepalives under one clock, one after the other, which don't ask for an answer
 abbrev pub keepalives : ℕ → ℤ → ℕ → List ℕ

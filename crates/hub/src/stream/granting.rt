@@ -1,8 +1,9 @@
 //! The streams of a hub: how they begin and end, and what they wait for.
 
-ghost use Rattle.std.specs.Prelude.{◌≡◌};
+ghost use Rattle.std.specs.Prelude.{◌≡◌, IfOk, length};
 ghost use Rattle.hub.specs.Refusals.{ahead_by};
-ghost use Rattle.hub.specs.Streams.{HasLearnt};
+ghost use Rattle.hub.specs.Streams.{BeginsAs, HasLearnt, asked_for};
+ghost use Rattle.walsender.specs.Sending.{HasChunks};
 
 use crate::connection::backend::name_of;
 use crate::stream::grant::StreamGrant;
@@ -20,10 +21,18 @@ use walsender::begin;
 
 /// Begins a stream, or answers why not: first what its user may not (`NotOwner`, A3, or `NotGranted`, A4), then the first of the
 /// refusals in the order of `walsender::begin`; after them, that its slot was given up (`SlotLost`, L8), or that it would start
-/// ahead of that (`StartAhead`, L7). Or `Memory`.
+/// ahead of that (`StartAhead`, L7). Or `Memory`. The stream is of what is asked for, from the position on or from a later one that
+/// its slot has confirmed, with at least as many chunks as the settings say.
 pub(crate) fn begin_stream<L: LogName + SlotName, R: Wait>(
     start: &mut HubStart<'_, L, R>,
-) -> Result<NewStream<L>, BackendFault> {
+) -> Result<NewStream<L>, BackendFault>
+    ensures { IfOk result
+        (λ s. BeginsAs
+        (asked_for start.old.server_state.now.publications
+        start.old.options.now.publications start.old.options.now)
+        start.old.position start.old.server_state.now.settings.chunks
+        s.stream.value.walsender.sender) }
+{
     if let Some(fault) = start.forbidden() {
         return Err(fault);
     }
@@ -100,7 +109,13 @@ fn opened<L: LogName + SlotName, R: Wait>(
     rt: &R,
     server_state: &ServerState<L>,
     grant: StreamGrant<L>,
-) -> Result<NewStream<L>, BackendFault> {
+) -> Result<NewStream<L>, BackendFault>
+    ensures asked { IfOk result
+        (λ s. (s.stream.value.walsender.sender.selection ≡ grant.selection)
+        × (s.stream.value.walsender.sender.start ≡ grant.start)) }
+    ensures chunks { IfOk result
+        (λ s. HasChunks s.stream.value.walsender.sender (length grant.arena)) }
+{
     match NewStream::open(server_state.alloc, grant) {
         Ok(stream) => {
             server_state.count_stream(rt);

@@ -1,6 +1,6 @@
 //! A stream on its way from the thread that begins it to the one that writes it.
 
-ghost use Rattle.std.specs.Prelude.{[], IfOk, length};
+ghost use Rattle.std.specs.Prelude.{◌≡◌, [], IfOk, length};
 ghost use Rattle.shared_log.specs.Readers.{seen_of};
 ghost use Rattle.walsender.specs.Sending.{HasChunks};
 ghost use Rattle.walsender.specs.Serving.{Serves};
@@ -20,6 +20,9 @@ pub(crate) struct NewStream<L: LogName + SlotName> {
 impl<L: LogName + SlotName> NewStream<L> {
     /// The stream of a grant. Where memory is refused it comes back as the error.
     pub fn open(alloc: Global, grant: StreamGrant<L>) -> Result<Self, Stream<L>>
+        ensures asked { IfOk result
+            (λ s. (s.stream.value.walsender.sender.selection ≡ grant.selection)
+            × (s.stream.value.walsender.sender.start ≡ grant.start)) }
         ensures chunks { IfOk result
             (λ s. HasChunks s.stream.value.walsender.sender (length grant.arena)) }
     {

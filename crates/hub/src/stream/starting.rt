@@ -1,6 +1,7 @@
 //! A START over the hub: where its slot, its publications and its reader come from.
 
-ghost use Rattle.std.specs.Prelude.{◌<◌};
+ghost use Rattle.std.specs.Prelude.{◌≡◌, ◌<◌, IfOk};
+ghost use Rattle.hub.specs.Streams.{IsStarted, asked_for};
 ghost use Rattle.slots.specs.declared.table.TheConstants.{END_OF_PLACES};
 
 use crate::connection::backend::name_of;
@@ -41,6 +42,45 @@ impl<'h, L: LogName + SlotName, R: Wait> HubStart<'h, L, R> {
         }
         None
     }
+
+    /// Claims the slot, and makes what its stream is made of: what the START asks for, from its position on or from a later one that
+    /// the slot has confirmed. Where that is refused, the reader is free again.
+    fn granted(
+        &self,
+        slot: FoundSlot,
+        reader_seat: ReaderSeat<L>,
+    ) -> Result<StreamGrant<L>, ClaimFault>
+        ensures place { IfOk result (λ grant. grant.hold.lease.place ≡ slot.place) }
+        ensures started { IfOk result
+            (λ grant. IsStarted
+            (asked_for self.now.server_state.now.publications
+            self.now.options.now.publications self.now.options.now)
+            self.now.position self.now.server_state.now.settings.chunks
+            grant.selection grant.start grant.arena) }
+    {
+        let server_state = self.server_state;
+        let params = StreamParams {
+            alloc: server_state.alloc,
+            publications: &server_state.publications,
+            names: self.options.publications.as_slice(),
+            options: self.options,
+            chunks: server_state.settings.chunks,
+            was_full: server_state.was_full(self.rt, slot.place),
+        };
+        match StreamGrant::claim(
+            &server_state.slots,
+            reader_seat,
+            slot.place,
+            &params,
+            self.position,
+        ) {
+            Ok(grant) => Ok(grant),
+            Err((reader_seat, fault)) => {
+                server_state.give_back(self.rt, reader_seat);
+                Err(fault)
+            }
+        }
+    }
 }
 
 /// The place of a slot that was found by its name.
@@ -57,8 +97,13 @@ impl<'h, L: LogName + SlotName, R: Wait> StartBackend for HubStart<'h, L, R> {
 
     type Grant = StreamGrant<L>;
 
-    // Other connections ask the same hub in between, so of a question nothing is told.
-    ghost told = { λ old question new. Unit {0} };
+    // Other connections ask the same hub in between, so of an answer nothing is told, but that the START stays what it is.
+    ghost told = { λ old question new. new ≡ old };
+
+    ghost granted = { λ start grant. IsStarted
+        (asked_for start.server_state.now.publications start.options.now.publications start.options.now)
+        start.position start.server_state.now.settings.chunks
+        grant.selection grant.start grant.arena };
 
     fn find_slot(&mut self) -> Option<FoundSlot> {
         match self.server_state.place_of(self.rt, self.slot) {
@@ -82,27 +127,6 @@ impl<'h, L: LogName + SlotName, R: Wait> StartBackend for HubStart<'h, L, R> {
         slot: FoundSlot,
         reader_seat: ReaderSeat<L>,
     ) -> Result<StreamGrant<L>, ClaimFault> {
-        let server_state = self.server_state;
-        let params = StreamParams {
-            alloc: server_state.alloc,
-            publications: &server_state.publications,
-            names: self.options.publications.as_slice(),
-            options: self.options,
-            chunks: server_state.settings.chunks,
-            was_full: server_state.was_full(self.rt, slot.place),
-        };
-        match StreamGrant::claim(
-            &server_state.slots,
-            reader_seat,
-            slot.place,
-            &params,
-            self.position,
-        ) {
-            Ok(grant) => Ok(grant),
-            Err((reader_seat, fault)) => {
-                server_state.give_back(self.rt, reader_seat);
-                Err(fault)
-            }
-        }
+        self.granted(slot, reader_seat)
     }
 }
