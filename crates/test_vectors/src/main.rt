@@ -11,6 +11,7 @@ mod filters;
 mod framing;
 mod passwords;
 mod publishing;
+mod segmenting;
 mod talking;
 mod uses;
 mod wording;

@@ -8,6 +8,7 @@ use crate::passwords::{
     answer_verifier_of,
 };
 use crate::publishing::{answer_explained, answer_published};
+use crate::segmenting::{answer_segment, answer_segments};
 use crate::talking::subscriber::{answer_applied, answer_render, answer_status};
 use crate::talking::talk::answer_talk;
 use crate::wording::answer::bytes_of;
@@ -45,6 +46,7 @@ pub fn answer_call(alloc: Global, call: &str, given: &str, answer: &mut String) 
         "proved" => answer_proved(alloc, given, answer),
         "proves" => answer_proves(alloc, given, answer),
         "login" => answer_login(alloc, given, answer),
+        "segments" => answer_segments(alloc, given, answer),
         _ => answer_digits(alloc, call, given, answer),
     }
 }
@@ -65,6 +67,7 @@ fn answer_bytes(alloc: Global, call: &str, bytes: &[u8], answer: &mut String) ->
         "read_client" => answer_client(alloc, bytes, answer),
         "read_body" => answer_body(alloc, bytes, answer),
         "render" => answer_render(alloc, bytes, answer),
+        "segment" => answer_segment(alloc, bytes, answer),
         "u8" | "u16" | "u32" | "u64" | "take2" | "cstr" => {
             Ok(answer_field(alloc, call, bytes, answer)?)
         }
