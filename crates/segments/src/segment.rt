@@ -1,6 +1,7 @@
 //! A file of the log that is written.
 
-ghost use Rattle.std.specs.Prelude.{◌≡◌, ◌≤◌, ◌++◌, ◌∷◌, [], ℕ, List, false, true, length, IsTrue, IfOk, OnErr, OnOk, Err};
+ghost use Rattle.std.specs.Prelude.{◌≡◌, ◌⊎◌, ◌≤◌, ◌++◌, ◌∷◌, [], ℕ, List, false, true, length, IsTrue, IfOk, OnErr, OnOk, Err};
+ghost use Rattle.sqlite_disk.specs.Disk.{MoreFaults};
 ghost use Rattle.segments.specs.Entries.{Written, entries, header};
 ghost use Rattle.segments.specs.Contents.{HasWritten, IsMarked};
 ghost use Rattle.segments.specs.Crashes.{Outlives};
@@ -72,6 +73,10 @@ impl<D: Disk + Drop> Segment<D> {
             ((es : List Written) → HasWritten D.seen self.old es →
             IsMarked D.seen D.may_leave self.old → IsMarked D.seen D.may_leave self.new) }
         ensures stops { result ≡ Err SegmentFault.Disk → self.new.has_failed ≡ true }
+        ensures failed { result ≡ Err SegmentFault.Failed →
+            (self.old.has_failed ≡ true) ⊎ (D.is_usable self.old.disk ≡ false) }
+        ensures cause { result ≡ Err SegmentFault.Disk →
+            MoreFaults (D.faults self.old.disk) (D.faults self.new.disk) }
         ensures stays { self.old.has_failed ≡ true →
             (result ≡ Err SegmentFault.Failed) × (self.new ≡ self.old) }
         ensures key { self.new.key ≡ self.old.key }
@@ -114,6 +119,10 @@ impl<D: Disk + Drop> Segment<D> {
             ((es : List Written) → HasWritten D.seen self.old es →
             IsMarked D.seen D.may_leave self.new) }
         ensures stops { result ≡ Err SegmentFault.Disk → self.new.has_failed ≡ true }
+        ensures failed { result ≡ Err SegmentFault.Failed →
+            (self.old.has_failed ≡ true) ⊎ (D.is_usable self.old.disk ≡ false) }
+        ensures cause { result ≡ Err SegmentFault.Disk →
+            MoreFaults (D.faults self.old.disk) (D.faults self.new.disk) }
         ensures stays { self.old.has_failed ≡ true →
             (result ≡ Err SegmentFault.Failed) × (self.new ≡ self.old) }
         ensures key { self.new.key ≡ self.old.key }
