@@ -2,6 +2,7 @@ pub mod Giving
 pub mod Invariants
 pub mod Publishing
 pub mod Receipts
+pub mod Replaying
 pub mod Rows
 pub mod Snapshots
 pub use Rattle.pqformat.specs.Fields

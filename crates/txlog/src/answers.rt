@@ -2,4 +2,5 @@
 
 pub(crate) mod fault;
 pub(crate) mod receipt;
+pub(crate) mod replay_fault;
 pub(crate) mod snapshot_fault;

@@ -43,7 +43,7 @@ pub struct Publisher<L: LogName> {
     /// How many records the log may have: as many more than lie in memory at once as may be given back.
     capacity: usize,
     pub(crate) log: LogWriter<L>,
-    next_xid: u32,
+    pub(crate) next_xid: u32,
     pub(crate) live: Live,
     pub(crate) snapshots: Snapshots,
 }
@@ -349,7 +349,7 @@ impl<L: LogName> Publisher<L> {
     }
 
     /// The savepoint of this depth.
-    fn test_rollback(&self, xid: u32, depth: usize) -> Result<Savepoint, SessionFault>
+    pub(crate) fn test_rollback(&self, xid: u32, depth: usize) -> Result<Savepoint, SessionFault>
         ensures refused { RefusedExactly (rollback_refusal xid depth self.now) result }
         ensures live { OnOk result (is_live xid self.now.live ≡ true) }
         ensures room { OnOk result (0 < room self.now) }

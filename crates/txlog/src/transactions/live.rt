@@ -1,7 +1,8 @@
 //! The transactions that are live.
 
-ghost use Rattle.std.specs.Prelude.{◌≡◌, ◌==◌, ◌∷◌, ◌++◌, [], ◌<◌, IfSome, OnErr, OnOk, length, position, slice_index, take};
+ghost use Rattle.std.specs.Prelude.{◌≡◌, ◌==◌, ◌∷◌, ◌++◌, [], ◌<◌, IfSome, MatchOption, OnErr, OnOk, length, position, slice_index, take};
 ghost use Rattle.wal.specs.Log.{last_of};
+ghost use Rattle.txlog.specs.Replaying.{IsOldest};
 ghost use Rattle.txlog.specs.Publishing.{is_live, savepoints_of, innermost, with_savepoints, without, xids};
 
 use crate::transactions::running::Running;
@@ -83,6 +84,13 @@ impl Live {
         self.running.retain(|running| running.xid() != xid);
     }
 
+    /// The oldest one's xid.
+    pub(crate) fn first(&self) -> Option<u32>
+        ensures { MatchOption result (self.now ≡ []) (IsOldest self.now) }
+    {
+        Some(self.running.as_slice().first()?.xid())
+    }
+
     fn place_of(&self, xid: u32) -> Option<usize>
         ensures value { result ≡ position (λ o. o.xid == xid) self.now }
         ensures within { IfSome result (λ place. place < length self.now) }
@@ -109,6 +117,16 @@ impl Live {
             }
             None => Ok(()),
         }
+    }
+
+    /// The transaction that has this xid, or a savepoint of it, and the savepoint's depth, 0 for the transaction.
+    pub(crate) fn holder(&self, xid: u32) -> Option<(u32, u32)> {
+        for running in &self.running {
+            if let Some(depth) = running.depth_of(xid) {
+                return Some((running.xid(), depth));
+            }
+        }
+        None
     }
 
     /// Keeps the first `depth` savepoints of a transaction.

@@ -43,6 +43,21 @@ impl Running {
         self.savepoints.as_slice()
     }
 
+    /// The depth of the savepoint that has this xid; 0 where it is the transaction's.
+    pub(crate) fn depth_of(&self, xid: u32) -> Option<u32> {
+        if self.xid == xid {
+            return Some(0);
+        }
+        let mut depth: u32 = 0;
+        for savepoint in &self.savepoints {
+            depth = depth.saturating_add(1);
+            if savepoint.xid == xid {
+                return Some(depth);
+            }
+        }
+        None
+    }
+
     pub(crate) fn push(&mut self, savepoint: Savepoint) -> Result<(), AllocError>
         ensures ok { OnOk result
             (self.new ≡ record self.old { savepoints = self.old.savepoints ++ savepoint ∷ [] }) }

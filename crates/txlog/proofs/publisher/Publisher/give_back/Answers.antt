@@ -1,4 +1,4 @@
-use Rattle.std.proofs.Common.{◌≡◌, ◌≤◌, ◌-◌, ◌+◌, max, min, arith, ap, refl, ◌∙◌}
+use Rattle.std.proofs.Common.{◌≡◌, ◌≤◌, arith, ap, refl, ◌∙◌}
 use Rattle.shared_log.specs.Kept.{given_after}
 use Rattle.txlog.specs.Publishing.{PublisherState, after_give_back}
 use Rattle.txlog.proofs.Calls.{given_back_kept}

@@ -1,4 +1,4 @@
-use Rattle.std.proofs.Common.{◌≡◌, ◌==◌, not, filter, refl, sym, ap, rules}
+use Rattle.std.proofs.Common.{◌==◌, not, refl, sym, ap, rules}
 use Rattle.std.proofs.lemmas.Fn.{filter_same}
 use Rattle.txlog.proofs.SnapshotList.{not_open, shown}
 use Rattle.txlog.proofs.snapshots.Snapshots.close.Goals as goal
