@@ -16,7 +16,7 @@ use Rattle.follower.specs.Promise.{begun_at, printed_in, AreReceived, received_b
 use Rattle.follower.proofs.Gaining.{gains_nothing, gains_then, gains_taken}
 use Rattle.follower.proofs.Printed.{takes_before}
 
-abbrev applier_of : Standing → ApplierState
+abbrev pub applier_of : Standing → ApplierState
 applier_of s = s.applier
 
 -- ---- Each once.
@@ -45,7 +45,7 @@ passing : (old next : ApplierState) (t : Subscriber) → next ≡ old → Gains 
 passing old next t is gains = subst (λ (a : ApplierState). Gains a.subscriber t) is gains
 
 -- nothing waits as the last lines are printed
-summed : (old next : Standing) (lines : List ℕ) → old.applier.subscriber.applied ≡ [] → DoesPrint lines old next → next.applier ≡ old.applier
+pub summed : (old next : Standing) (lines : List ℕ) → old.applier.subscriber.applied ≡ [] → DoesPrint lines old next → next.applier ≡ old.applier
 summed old next lines none prints = prints.applier ∙ ap (λ (l : List Published). record old.applier { subscriber = record old.applier.subscriber { applied = l } }) (sym none)
 
 gains_in : (old : Standing) (deeds : List Deed) (new : Standing) (run : Runs old deeds new) → GainsIn old deeds new run
@@ -70,7 +70,7 @@ each_once start written kept sent deeds now run =
 -- ---- None is lost.
 
 -- what is printed joins what was printed
-forgetting : (printed : List Published) (a : ApplierState) → with_printed (printed ++ a.subscriber.applied) (applier_without_applied a) ≡ with_printed printed a
+pub forgetting : (printed : List Published) (a : ApplierState) → with_printed (printed ++ a.subscriber.applied) (applier_without_applied a) ≡ with_printed printed a
 forgetting printed a = ap (λ (l : List Published). record a { subscriber = record a.subscriber { applied = l } }) (append-nil (printed ++ a.subscriber.applied))
 
 -- bytes that are taken stand after those before them

@@ -1,5 +1,5 @@
 -- The position that is found is that of the last whole transaction or note.
-use Rattle.std.proofs.Common.{◌≡◌, ℕ, zero, suc, ◌+◌, ◌^◌, ◌==◌, ◌||◌, ◌&&◌, not, Bool, true, false, List, [], ◌∷◌, ◌++◌, Option, Some, None, refl, sym, ap, subst, ◌∙◌, arith}
+use Rattle.std.proofs.Common.{◌≡◌, ℕ, ◌+◌, ◌^◌, ◌==◌, ◌||◌, ◌&&◌, not, Bool, true, false, List, [], ◌∷◌, ◌++◌, Some, refl, sym, ap, subst, ◌∙◌, arith}
 use Rattle.std.proofs.lemmas.Bool.Decides.{nat_tests}
 use Rattle.std.specs.Prelude.{◌<◌}
 use Rattle.std.specs.List.{AllByRecursion}
@@ -8,7 +8,7 @@ use Rattle.follower.specs.declared.resume_point.ResumePoint.{ResumePoint}
 use Rattle.follower.specs.declared.printing.line.Line.{Line}
 use Rattle.follower.specs.ResumePoint.{with_line, with_lines}
 use Rattle.follower.specs.Lives.{place_after, place_after_all}
-use Rattle.follower.specs.Found.{IsFirst, IsWithin, TellsTransaction, TellsNote, TellsOne, TellAll, BeginsOne, bytes_in, nothing_kept, Finds}
+use Rattle.follower.specs.Found.{IsFirst, IsWithin, TellsTransaction, TellsOne, TellAll, BeginsOne, bytes_in, nothing_kept, Finds}
 
 lines_then : (k : ResumePoint) (xs ys : List Line) → with_lines k (xs ++ ys) ≡ with_lines (with_lines k xs) ys
 lines_then k [] ys = refl

@@ -4,6 +4,8 @@ pub mod Deeds
 pub mod Given
 pub mod Going
 pub mod Lived
+pub mod Ordered
+pub mod Served
 pub mod CopiedValues
 pub mod Found
 pub mod TextLines

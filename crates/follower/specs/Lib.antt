@@ -3,6 +3,7 @@ pub mod Found
 pub mod ResumePoint
 pub mod Lives
 pub mod Once
+pub mod Served
 pub mod Promise
 pub mod Requests
 pub mod Retrying

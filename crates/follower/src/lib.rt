@@ -47,6 +47,7 @@ pub use printing::output::Output;
 pub use receiving::promise::{
     a_run_goes_on_after_the_last_whole_one, each_transaction_is_printed_once,
     each_transaction_stands_once_over_kills, no_acknowledgement_is_ahead, no_transaction_is_lost,
+    what_stands_is_a_beginning_of_what_is_published,
 };
 pub use resume_point::ResumePoint;
 pub use resuming::{Subscription, resume};

@@ -1,6 +1,7 @@
 //! What holds of a follower over all its connections.
 
 ghost use Rattle.std.specs.Prelude.{◌≡◌, ℕ, ℤ, Bool, List, Option, [], ◌++◌, ◌^◌, ◌<◌};
+ghost use mathlib.Core.List.{IsPrefix};
 ghost use Rattle.pgoutput.specs.declared.messages.relation.Relation.{Relation};
 ghost use Rattle.pgoutput.specs.declared.published.Published.{Published};
 ghost use Rattle.pgoutput.specs.Items.{Item, bytes_of_items, FitItems};
@@ -10,6 +11,7 @@ ghost use Rattle.follower.specs.declared.printing.line.Line.{Line};
 ghost use Rattle.follower.specs.ResumePoint.{with_lines};
 ghost use Rattle.follower.specs.Found.{BeginsOne, Finds, TellAll, bytes_in, nothing_kept};
 ghost use Rattle.follower.specs.Lives.{EachBehind, Life, Lives, place_after_all, printed_over};
+ghost use Rattle.follower.specs.Served.{AreServedLives, InLogOrder};
 ghost use Rattle.follower.specs.Standing.{Standing, Deed, Connects, Does, Runs, Tells};
 ghost use Rattle.follower.specs.Promise.{begun_at, printed_in, AreReceived, received_bytes};
 
@@ -44,6 +46,16 @@ pub fn each_transaction_stands_once_over_kills()
     ensures { (start : ℕ) (printed : List Published) (lives : List Life)
         (lived : Lives start printed lives) →
         EachBehind start printed → EachBehind start (printed_over start printed lives lived) }
+{}
+
+/// Over every list of runs whose servers keep to their protocol, wherever connections are cut, runs killed and memory runs out: what
+/// stands in the output is a beginning of what the log publishes.
+pub fn what_stands_is_a_beginning_of_what_is_published()
+    ensures { (start : ℕ) (published printed : List Published) (lives : List Life)
+        (lived : Lives start printed lives) →
+        InLogOrder start published → IsPrefix printed published →
+        AreServedLives published start start printed lives lived →
+        IsPrefix (printed_over start printed lives lived) published }
 {}
 
 /// As a status is sent, all that was gained up to the position that it tells was printed, each transaction once, and all that came

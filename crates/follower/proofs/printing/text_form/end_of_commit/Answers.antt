@@ -1,4 +1,4 @@
-use Rattle.std.proofs.Common.{◌≡◌, ◌++◌, ◌∷◌, refl, ap, sym, ◌∙◌}
+use Rattle.std.proofs.Common.{◌++◌, ◌∷◌, refl}
 use Rattle.std.specs.Fmt.{signed_decimal}
 use Rattle.replcmd.specs.Position.{position_text}
 use Rattle.message_lines.specs.Texts.{commit_text}
