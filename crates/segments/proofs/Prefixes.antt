@@ -18,10 +18,10 @@ same e f = ⊎_elim
     by_bodies marks true is = inl (ap (λ (n : ℕ). record { synced = n; body = f.body }) marks ∙ ap (λ (l : List ℕ). record { synced = e.synced; body = l }) ((bytes_eq-Decides f.body e.body).0 is))
     by_bodies marks false is = inr (λ equal. let told : bytes_eq f.body e.body ≡ true = (bytes_eq-Decides f.body e.body).1 (ap (λ (w : Written). w.body) equal) in let never : false ≡ true = sym is ∙ told in cc)
 
-head_same : (f e : Written) (xs ys : List Written) → f ∷ xs ≡ e ∷ ys → f ≡ e
+pub head_same : (f e : Written) (xs ys : List Written) → f ∷ xs ≡ e ∷ ys → f ≡ e
 head_same f e xs ys is = cc
 
-tail_same : (f e : Written) (xs ys : List Written) → f ∷ xs ≡ e ∷ ys → xs ≡ ys
+pub tail_same : (f e : Written) (xs ys : List Written) → f ∷ xs ≡ e ∷ ys → xs ≡ ys
 tail_same f e xs ys is = cc
 
 pub begins_or_forged : (es found : List Written) → IsPrefix found es ⊎ IsForged es found

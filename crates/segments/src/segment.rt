@@ -1,6 +1,6 @@
 //! A file of the log that is written.
 
-ghost use Rattle.std.specs.Prelude.{◌≡◌, ◌⊎◌, ◌≤◌, ◌++◌, ◌∷◌, [], ℕ, List, false, true, length, IsTrue, IfOk, OnErr, OnOk, Err};
+ghost use Rattle.std.specs.Prelude.{◌≡◌, ◌⊎◌, ◌≤◌, ◌++◌, ◌∷◌, [], ℕ, List, false, true, length, IsTrue, IfErr, IfOk, OnErr, OnOk, Err};
 ghost use Rattle.sqlite_disk.specs.Disk.{MoreFaults};
 ghost use Rattle.segments.specs.Entries.{Written, entries, header};
 ghost use Rattle.segments.specs.Contents.{HasWritten, IsMarked};
@@ -72,6 +72,10 @@ impl<D: Disk + Drop> Segment<D> {
         ensures marked { OnOk result
             ((es : List Written) → HasWritten D.seen self.old es →
             IsMarked D.seen D.may_leave self.old → IsMarked D.seen D.may_leave self.new) }
+        ensures unwritten { IfErr result
+            (λ fault. (fault ≡ SegmentFault.Disk)
+            ⊎ ((es : List Written) → HasWritten D.seen self.old es →
+            HasWritten D.seen self.new es)) }
         ensures stops { result ≡ Err SegmentFault.Disk → self.new.has_failed ≡ true }
         ensures failed { result ≡ Err SegmentFault.Failed →
             (self.old.has_failed ≡ true) ⊎ (D.is_usable self.old.disk ≡ false) }
