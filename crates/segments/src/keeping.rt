@@ -1,9 +1,14 @@
 //! Who writes the records of a log into a segment, behind the log's other readers.
 
-ghost use Rattle.std.specs.Prelude.{◌≡◌, ◌≢◌, ◌⊎◌, ◌+◌, ◌≤◌, ◌∷◌, ◌++◌, [], List, Err, IfErr, IfOk, OnOk, length, take};
+ghost use Rattle.std.specs.Prelude.{◌≡◌, ◌≢◌, ◌⊎◌, ◌+◌, ◌≤◌, ◌∷◌, ◌++◌, [], List, Err, IfErr, IfOk, OnOk, drop, length, take};
+ghost use mathlib.Core.List.{IsPrefix};
+ghost use Rattle.shared_log.specs.SeenPrefixes.{settled_records};
 ghost use Rattle.shared_log.specs.Readers.{seen_of};
 ghost use Rattle.wal.specs.Records.{shared_records};
 ghost use Rattle.wal.specs.declared.record.Record.{Record as Logged};
+ghost use Rattle.segments.specs.Contents.{HasWritten};
+ghost use Rattle.segments.specs.Crashes.{Outlives};
+ghost use Rattle.segments.specs.Entries.{Written, entries, header};
 ghost use Rattle.segments.specs.Keeping.{HasLogged, Keeps};
 
 use crate::fault::SegmentFault;
@@ -57,6 +62,10 @@ impl<D: Disk + Drop, L: LogName> LogKeeper<D, L> {
             Keeps D.seen self.old.segment self.old.reader →
             Keeps D.seen self.new.segment self.new.reader }
         ensures count { IfOk result (λ n. self.new.reader.place ≡ self.old.reader.place + n) }
+        ensures all { IfOk result (λ n. n ≡ length
+            (take max (drop self.old.reader.place (seen_of self.new.reader)))) }
+        ensures sees { OnOk result
+            (IsPrefix (settled_records self.old.reader.told) (seen_of self.new.reader)) }
     {
         let records = self.reader.fetch(alloc, max)?;
         let count = records.len();
@@ -71,8 +80,29 @@ impl<D: Disk + Drop, L: LogName> LogKeeper<D, L> {
     }
 
     /// Puts all that was written on the disk, as `Segment::sync` does.
-    pub fn sync(&mut self) -> Result<(), SegmentFault> {
+    pub fn sync(&mut self) -> Result<(), SegmentFault>
+        ensures keeps { OnOk result
+            (Keeps D.seen self.old.segment self.old.reader →
+            Keeps D.seen self.new.segment self.new.reader) }
+        ensures lasts { OnOk result
+            ((es : List Written) → HasWritten D.seen self.old.segment es →
+            Outlives (header self.new.segment.key ++ entries self.new.segment.key es)
+            (D.may_leave self.new.segment.disk)) }
+        ensures reader { self.new.reader ≡ self.old.reader }
+    {
         self.segment.sync()
+    }
+
+    /// Gives both back.
+    pub fn end(self) -> (Segment<D>, LogReader<L>)
+        ensures { result ≡ (self.segment, self.reader) }
+    {
+        let LogKeeper {
+            segment,
+            reader,
+            body: _,
+        } = self;
+        (segment, reader)
     }
 }
 

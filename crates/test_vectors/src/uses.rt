@@ -10,6 +10,7 @@ mod endless;
 mod filters;
 mod items;
 mod own_log;
+mod recovering;
 mod sending;
 mod subscriber;
 mod without_memory;
@@ -21,6 +22,7 @@ use claims::work_on_slots;
 use connection::hold_conversations;
 use endless::commit_on_and_on;
 use filters::work_on_filters;
+use recovering::recover;
 use sending::print_stream;
 use std::alloc::Global;
 use std::io::{Input, Print};
@@ -41,6 +43,7 @@ const USAGE: &str = "usage: test_vectors [USE [then USE]..], where a USE is one 
   slots slots|words|apart THREADS TURNS
   arena CHUNKS LENGTH TURNS push|copy
   endless MILLIONS
+  recovered LINES..
   without-memory arena|store|slots|log|wire|filter|message made|called";
 
 pub fn use_one<R>(rt: &R, alloc: Global, words: &[String]) -> Result<()>
@@ -66,6 +69,7 @@ where
         "slots" => work_on_slots(rt, alloc, words),
         "arena" => work_on_arena(alloc, words),
         "endless" => commit_on_and_on(rt, alloc, words),
+        "recovered" => recover(rt, alloc, words),
         "without-memory" => call_without_memory(rt, alloc, words),
         _ => Err(Error::msg(USAGE)),
     }
