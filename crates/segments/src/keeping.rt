@@ -131,17 +131,17 @@ fn write_all<D: Disk + Drop>(
 fn write_one<D: Disk + Drop>(
     segment: &mut Segment<D>,
     body: &mut BytesMut,
-    record: &Record,
+    one: &Record,
 ) -> Result<(), SegmentFault>
     ensures logged { OnOk result
         ((log : List Logged) → HasLogged D.seen segment.old log →
-        HasLogged D.seen segment.new (log ++ record.now ∷ [])) }
+        HasLogged D.seen segment.new (log ++ one.now ∷ [])) }
     ensures unwritten { IfErr result
         (λ fault. (fault ≡ SegmentFault.Disk)
         ⊎ ((log : List Logged) → HasLogged D.seen segment.old log →
         HasLogged D.seen segment.new log)) }
 {
     body.clear();
-    put_record(&record.body, body)?;
+    put_record(&one.body, body)?;
     segment.append(body.as_slice())
 }

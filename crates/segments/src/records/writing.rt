@@ -23,11 +23,11 @@ pub const COMMIT_TAG: u8 = 5;
 pub const NOTE_TAG: u8 = 6;
 
 /// Adds what tells a record: the body of its entry. `AllocError` where memory is refused; some of it may have been added then.
-pub fn put_record(record: &Body, out: &mut BytesMut) -> Result<(), AllocError>
-    ensures spelled { OnOk result (out.new.items ≡ out.old.items ++ spell_record record.now) }
-    ensures told { OnOk result (IsTold record.now) }
+pub fn put_record(body: &Body, out: &mut BytesMut) -> Result<(), AllocError>
+    ensures spelled { OnOk result (out.new.items ≡ out.old.items ++ spell_record body.now) }
+    ensures told { OnOk result (IsTold body.now) }
 {
-    match record {
+    match body {
         Body::Assign(subtransaction, parent) => {
             put_byte(out, ASSIGN_TAG)?;
             put_int32(out, *subtransaction)?;
