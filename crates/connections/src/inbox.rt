@@ -1,6 +1,6 @@
 //! What a connection's reading thread leaves for its writing thread.
 
-ghost use Rattle.std.specs.Prelude.{◌≡◌, ◌++◌, ◌==◌, ◌↔◌, ◌&&◌, [], Some, None, length, max, not, true, false};
+ghost use Rattle.std.specs.Prelude.{◌≡◌, ◌^◌, ◌-◌, ◌++◌, ◌==◌, ◌↔◌, ◌&&◌, [], Some, None, length, max, not, true, false};
 ghost use Rattle.connections.specs.Inboxes.{asked_after, first_cause, flushed_after};
 
 use crate::fault::ConnectionEnd;
@@ -41,6 +41,8 @@ pub struct Work {
     pub phase: Phase,
     /// What the clock said when it was taken, in microseconds since 2000-01-01.
     pub clock: i64,
+    /// How many records of the log may be told to its client.
+    pub readable: usize,
 }
 
 impl Work {
@@ -128,6 +130,7 @@ impl Inbox {
               is_silent = self.old.is_silent;
               phase = self.old.phase;
               clock = self.old.clock;
+              readable = 2 ^ 64 - 1;
             } }
         ensures empty { self.new.said.items ≡ [] }
         ensures rest { (self.new.flushed ≡ None) × (self.new.asked ≡ 0)
@@ -146,6 +149,7 @@ impl Inbox {
             is_silent,
             phase: self.phase,
             clock: self.clock,
+            readable: usize::MAX,
         }
     }
 

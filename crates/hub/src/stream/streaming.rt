@@ -13,7 +13,7 @@ ghost use Rattle.wal.specs.declared.record.Record.{Record};
 ghost use Rattle.walsender.specs.Sending.{HasChunks};
 ghost use Rattle.walsender.specs.Serving.{Gives, Serves, StaysOn};
 ghost use Rattle.hub.specs.Streams.{HasLearnt, StreamsOn, asking, keepalives};
-ghost use Rattle.hub.specs.Turns.{Confirms, WritesWhole};
+ghost use Rattle.hub.specs.Turns.{Confirms, WritesWhole, most_read};
 ghost use Rattle.pgoutput.specs.Words.{word_bytes};
 ghost use Rattle.pgoutput.specs.Items.{keepalive_word};
 
@@ -27,7 +27,14 @@ use slots::{SlotName, SlotTable};
 use std::alloc::Global;
 use std::io;
 use std::io::Write;
-use walsender::{SendFault, TurnFault, Walsender};
+use walsender::{SendFault, TURN_RECORDS, TurnFault, Walsender};
+
+/// How many records a turn reads at most, of those that may be told, behind so many.
+fn most_read(readable: usize, place: usize) -> usize
+    ensures { result ≡ most_read readable place }
+{
+    readable.saturating_sub(place).min(TURN_RECORDS)
+}
 
 /// How many keepalives are held at once, of those that answer statuses.
 const MOST_KEEPALIVES: u32 = 256;
@@ -145,7 +152,8 @@ impl<L: LogName + SlotName> Stream<L> {
         let clock = work.clock;
         self.answer_statuses(work.asked, clock, to)?;
         self.ask_if(work.is_silent, clock)?;
-        self.walsender.turn(self.alloc, clock, to)?;
+        let most = most_read(work.readable, self.walsender.reader.place());
+        self.walsender.turn(self.alloc, most, clock, to)?;
         self.tell_position(clock, to)
     }
 
