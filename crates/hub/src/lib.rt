@@ -12,6 +12,7 @@
 
 mod connection;
 mod hub;
+mod keeping;
 mod listener_handle;
 mod server_host;
 mod service;

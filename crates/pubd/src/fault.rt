@@ -3,6 +3,7 @@
 use crate::options::command_fault::CommandFault;
 use crate::options::password::PasswordFault;
 use crate::options::user_file::UserFileFault;
+use crate::running::log_file::LogFileFault;
 use crate::scripting::ScriptFileFault;
 use command_line::{Ending, WordsFault};
 use configuration::ConfigFileFault;
@@ -25,6 +26,8 @@ pub enum Fault {
     Users(#[from] UserFileFault),
     #[error("{0}")]
     Hub(HubFault),
+    #[error("{0}")]
+    LogFile(#[from] LogFileFault),
     #[error("no name can be chosen for the system: {0}")]
     System(io::Error),
     #[error("the address cannot be listened at: {0}")]
@@ -56,7 +59,8 @@ impl Ending for Fault {
             | Fault::Script(_)
             | Fault::Password(_)
             | Fault::Users(_)
-            | Fault::Hub(HubFault::Memory)
+            | Fault::Hub(HubFault::Memory | HubFault::Recovery(_))
+            | Fault::LogFile(_)
             | Fault::System(_)
             | Fault::Listen(_)
             | Fault::Signals(_)

@@ -27,6 +27,7 @@ use running::beginning::{begin_reading, begin_telling, begin_watching};
 use running::descriptors::open_standard;
 use running::ending::ListenerHandles;
 use running::host::{Host, SharedHost};
+use running::log_file::log_in;
 use running::opening::opened;
 use running::serving::{ServerParts, served};
 use scripting::{STANDARD_INPUT, Script, scripts_at};
@@ -84,6 +85,7 @@ where
         numbers: &numbers,
         scripts: scripts.as_slice(),
         passwords: words.passwords,
+        data: words.data,
         has_input: words.scripts.as_slice().contains(&STANDARD_INPUT),
     };
     listen(rt, host, &asked)
@@ -97,6 +99,8 @@ struct Invocation<'a> {
     scripts: &'a [Script],
     /// The file of those that may connect.
     passwords: Option<&'a str>,
+    /// The folder in which the log is kept.
+    data: Option<&'a str>,
     /// Whether lines come from the standard input.
     has_input: bool,
 }
@@ -168,7 +172,13 @@ where
     let mut opened = opened(rt, config, asked.numbers)?;
     opened.users = asked_users(rt, asked.passwords)?;
     warn(host, asked, &told);
-    let done = served::<Brand, R, _>(host, opened, service, &told, &rt.stdout());
+    let mut segment = None;
+    if let Some(folder) = asked.data {
+        let (file, entries) = log_in(rt, folder)?;
+        opened.entries = Some(entries);
+        segment = Some(file);
+    }
+    let done = served::<Brand, R, _>(host, opened, service, &told, &rt.stdout(), segment);
     told.end(host);
     done
 }

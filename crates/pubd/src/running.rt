@@ -4,6 +4,7 @@ pub(crate) mod beginning;
 pub(crate) mod descriptors;
 pub(crate) mod ending;
 pub(crate) mod host;
+pub(crate) mod log_file;
 pub(crate) mod opening;
 pub(crate) mod scripts;
 pub(crate) mod serving;

@@ -4,6 +4,7 @@ ghost use Rattle.std.specs.Prelude.{◌≡◌};
 ghost use Rattle.server_state.specs.declared.fault.HubFault.TheVariants.{Memory};
 
 use std::alloc::{AllocError, AllocFailed};
+use segments::RecoveryFault;
 use std::io;
 use thiserror::Error;
 use txlog::SessionFault;
@@ -15,6 +16,9 @@ pub enum HubFault {
     LongName,
     #[error("out of memory")]
     Memory,
+    /// Its log doesn't go on by the records of its file.
+    #[error("the log's file can't be followed: {0}")]
+    Recovery(RecoveryFault),
 }
 
 impl From<AllocError> for HubFault {
@@ -43,6 +47,9 @@ pub enum EndFault {
     /// keys are held.
     #[error("out of memory: the transaction could not be aborted, and holds its rows")]
     Unended,
+    /// It has committed, but the disk of its log has failed, so that it may be gone after a restart.
+    #[error("the log's disk has failed: the commit may be lost")]
+    Unsynced,
 }
 
 /// Why `serve` took no more connections.

@@ -3,6 +3,7 @@
 ghost use Rattle.std.specs.Prelude.{◌≡◌};
 
 use crate::fault::HubFault;
+use crate::kept::durability::Durability;
 use crate::kept::log_size::LogSize;
 use crate::kept::log_times::LogTimes;
 use crate::kept::owned_names::OwnedNames;
@@ -20,7 +21,8 @@ use shared_log::{LogName, LogReader};
 use slots::{SlotName, SlotTable};
 use std::alloc::Global;
 use std::sync::atomic::{AtomicBool, AtomicU32, AtomicU64, AtomicUsize, Ordering};
-use std::sync::{Condvar, Mutex, Wait};
+use std::mem;
+use std::sync::{Condvar, Mutex, MutexGuard, Wait};
 use std::time::{Clock, Duration};
 use txlog::Publisher;
 
@@ -62,6 +64,10 @@ pub struct ServerState<L: LogName + SlotName> {
     pub(crate) next_look: AtomicUsize,
     /// How long the log was when the publisher was let go last.
     pub(crate) log_size: Mutex<LogSize>,
+    /// What of the log is on a disk.
+    pub durability: Durability,
+    /// The reader of who writes it there.
+    pub(crate) keeper: Mutex<Option<LogReader<L>>>,
 }
 
 impl<L: LogName + SlotName> ServerState<L> {
@@ -78,8 +84,9 @@ impl<L: LogName + SlotName> ServerState<L> {
             slots,
             settings,
             users,
+            entries,
         } = opened;
-        match Shared::open(rt, alloc, log, slots, AtOnce::of(&settings)) {
+        match Shared::open(rt, alloc, log, slots, AtOnce::of(&settings), entries) {
             Ok(shared) => Ok(ServerState::of(shared, alloc, publications, system, settings, users)),
             Err(fault) => {
                 drop(publications);
@@ -107,6 +114,8 @@ impl<L: LogName + SlotName> ServerState<L> {
             publisher,
             pool,
             counter,
+            keeper,
+            kept,
         } = shared;
         let Places {
             table,
@@ -140,6 +149,8 @@ impl<L: LogName + SlotName> ServerState<L> {
             strangers: AtomicU32::new(0),
             next_look: AtomicUsize::new(0),
             log_size,
+            durability: Durability::new(kept),
+            keeper: Mutex::new(keeper),
         }
     }
 
@@ -170,6 +181,8 @@ impl<L: LogName + SlotName> ServerState<L> {
             strangers: _,
             next_look: _,
             log_size: _,
+            durability: _,
+            keeper: _,
         } = self;
         publisher.into_inner().close(rt);
     }
@@ -230,6 +243,27 @@ impl<L: LogName + SlotName> ServerState<L> {
     /// A connection is served no more.
     pub fn dismiss(&self) {
         self.served.fetch_sub(1, Ordering::SeqCst);
+    }
+
+    // ---- what is kept on a disk
+
+    /// How many records of the log may be told to anybody.
+    pub fn readable(&self) -> usize {
+        self.durability.readable()
+    }
+
+    /// The reader of who writes the log to a disk, once.
+    pub fn take_keeper<R: Wait>(&self, rt: &R) -> Option<LogReader<L>> {
+        let mut place = self.keeper.lock(rt);
+        mem::replace(&mut *place, None)
+    }
+
+    /// How many records the log has.
+    pub fn count<R: Wait>(&self, rt: &R) -> usize {
+        let publisher = self.publisher.lock(rt);
+        let count = publisher.count();
+        let _ = MutexGuard::unlock(publisher);
+        count
     }
 
     // ---- what threads wait for

@@ -14,7 +14,7 @@ use std::test::Fail;
 use std::thread::Threads;
 use txlog::Publisher;
 use wal::{Body, Record};
-use walsender::{Sender, TurnFault, turn};
+use walsender::{Sender, TURN_RECORDS, TurnFault, turn};
 
 /// What is sent of a transaction that inserts (1,'ab',7), commits with time 5 and is read with clock 9: the sample of
 /// docs/PROTOCOL.md.

@@ -8,7 +8,7 @@ use command_line::{CommandLine, Word, WordForm, WordsFault};
 use std::alloc::{AllocError, Global};
 
 /// The words: those that may be left out, those that have to be there, and scripts.
-const WORDS: [Word<'static>; 20] = [
+const WORDS: [Word<'static>; 21] = [
     Word {
         name: "await-streams",
         form: WordForm::Option("N"),
@@ -73,6 +73,11 @@ const WORDS: [Word<'static>; 20] = [
         name: "passwords",
         form: WordForm::Option("FILE"),
         help: "Let only those connect that have a line in FILE, as --password-of prints it, and prove that they know its password",
+    },
+    Word {
+        name: "data",
+        form: WordForm::Option("FOLDER"),
+        help: "Keep the log in a file of FOLDER, which is made where it is missing, and go on by it after a restart",
     },
     Word {
         name: "keep-serving",
@@ -157,6 +162,7 @@ fn words_in<'a>(alloc: Global, matches: &ArgMatches<'a>) -> Result<Words<'a>, Al
         keeps_serving: matches.get_flag("keep-serving"),
         ends_on_sigterm: matches.get_flag("end-on-sigterm"),
         passwords: matches.get_str("passwords"),
+        data: matches.get_str("data"),
         password_of: matches.get_str("password-of"),
         scripts: scripts_in(alloc, matches)?,
     })

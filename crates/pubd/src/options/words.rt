@@ -39,6 +39,8 @@ pub struct Words<'a> {
     pub(crate) ends_on_sigterm: bool,
     /// The file of those that may connect, where not everyone may.
     pub passwords: Option<&'a str>,
+    /// The folder in which the log is kept.
+    pub data: Option<&'a str>,
     /// Of whom a password is read, and nothing is served.
     pub password_of: Option<&'a str>,
     pub scripts: Vec<&'a str>,

@@ -11,8 +11,10 @@ use crate::standard_error::level::Level;
 use crate::standard_error::reports::Reports;
 use crate::status::status_page::serve_status;
 use hub::{Hub, HubBuilder, serve};
+use segments::Segment;
 use shared_log::LogName;
 use slots::SlotName;
+use sqlite_std_file::File;
 use std::alloc::AllocError;
 use std::io::Print;
 use std::net::TcpListener;
@@ -48,6 +50,7 @@ pub(crate) fn served<L, R, O>(
     service: &ServerParts,
     told: &ErrorLog,
     output: &O,
+    segment: Option<Segment<File>>,
 ) -> Result<(), Fault>
 where
     L: LogName + SlotName + Send + Sync,
@@ -57,9 +60,51 @@ where
     requires slots { opened.slots.first.table_id ≡ L.table }
 {
     let hub = Hub::<L>::open(rt, opened).map_err(Fault::Hub)?;
-    let done = serve_beside_all(rt, &hub, service, told, output);
+    let done = match segment {
+        Some(segment) => serve_kept(rt, &hub, service, told, output, segment),
+        None => serve_beside_all(rt, &hub, service, told, output),
+    };
     hub.close(rt);
     done
+}
+
+/// Serves beside a thread that keeps the log in its file.
+fn serve_kept<L, R, O>(
+    rt: &R,
+    hub: &Hub<L>,
+    service: &ServerParts,
+    told: &ErrorLog,
+    output: &O,
+    segment: Segment<File>,
+) -> Result<(), Fault>
+where
+    L: LogName + SlotName + Send + Sync,
+    R: Threads + Wait + Clock + RandomSource + Sync,
+    O: Print,
+{
+    thread::scope(thread::scope_env(), rt, |scope| {
+        let kept = scope.spawn(move || keep(rt, hub, segment, told));
+        if !was_spawned(kept) {
+            return Err(Fault::Memory(AllocError));
+        }
+        let done = serve_beside_all(rt, hub, service, told, output);
+        hub.end_keeping(rt);
+        done
+    })
+}
+
+/// Keeps the log in its file. Why that ended is told.
+fn keep<L, R>(rt: &R, hub: &Hub<L>, segment: Segment<File>, told: &ErrorLog)
+where
+    L: LogName + SlotName,
+    R: Wait + Clock,
+{
+    if let Err(fault) = hub.keep(rt, segment) {
+        told.line(
+            rt,
+            format_args!("pubd: the log is kept no more, and what commits may be lost: {fault}"),
+        );
+    }
 }
 
 /// Serves, with its scripts and its page beside that on threads of their own. Where lines come from the standard input, they are

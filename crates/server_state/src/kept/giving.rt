@@ -30,7 +30,10 @@ impl<L: LogName + SlotName> ServerState<L> {
         let mut counter = self.counter.lock(rt);
         self.give_up_slots(rt, &mut *counter, count);
         let least = self.least_confirmed(rt, publisher.end());
-        publisher.give_back_before(&mut *counter, least);
+        let on_disk = publisher.tell(&mut *counter).min(self.durability.passed());
+        if let Some(place) = kept_place(&mut *counter, least, on_disk) {
+            publisher.give_back(place);
+        }
         drop(counter);
         let next = count.saturating_add(self.part());
         self.next_look.store(next, Ordering::SeqCst);

@@ -10,6 +10,7 @@ use catalog::Catalog;
 use connections::Users;
 use pqformat::Text;
 use publication::Publications;
+use segments::Entry;
 use slots::OpenedSlots;
 use std::alloc::Global;
 use std::time::Duration;
@@ -45,6 +46,8 @@ pub struct HubBuilder {
     pub settings: HubSettings,
     /// Those that may connect by their passwords: everyone without one, unless it is set.
     pub users: Option<Users>,
+    /// What the file of its log has; None: the log is kept in none.
+    pub entries: Option<Vec<Entry>>,
 }
 
 impl HubBuilder {
@@ -69,6 +72,7 @@ impl HubBuilder {
                 slots,
                 settings: settings_for(records),
                 users: None,
+                entries: None,
             }),
             Err(fault) => {
                 drop(publications);

@@ -7,6 +7,7 @@ use crate::kept::owned_names::OwnedNames;
 use crate::kept::pool::ReaderPool;
 use crate::opening::at_once::AtOnce;
 use connections::{Latch, Names, SlotMonitor};
+use segments::{Entry, replay};
 use shared_log::{LogName, LogReader};
 use slots::{OpenedSlots, SlotName, SlotSeat, SlotTable};
 use std::alloc::{AllocError, Global};
@@ -28,6 +29,9 @@ pub(crate) struct Shared<L: LogName + SlotName> {
     pub publisher: Publisher<L>,
     pub pool: ReaderPool<L>,
     pub counter: LogReader<L>,
+    /// The reader of who writes the log to a disk, and how many records are there; None: it is kept on none.
+    pub keeper: Option<LogReader<L>>,
+    pub kept: Option<usize>,
 }
 
 impl<L: LogName + SlotName> Shared<L> {
@@ -37,6 +41,7 @@ impl<L: LogName + SlotName> Shared<L> {
         log: PublisherParts,
         slots: OpenedSlots,
         at_once: AtOnce,
+        entries: Option<Vec<Entry>>,
     ) -> Result<Self, HubFault>
         requires log { log.history.seen.book ≡ L.book }
         requires slots { slots.first.table_id ≡ L.table }
@@ -48,13 +53,15 @@ impl<L: LogName + SlotName> Shared<L> {
                 return Err(fault);
             }
         };
-        let log = log.for_readers(at_once.streams + 1);
-        match published(rt, alloc, log, seats) {
-            Ok((publisher, pool, counter)) => Ok(Shared {
+        let log = log.for_readers(at_once.streams + 2);
+        match published(rt, alloc, log, seats, entries) {
+            Ok((publisher, readers, kept)) => Ok(Shared {
                 places,
                 publisher,
-                pool,
-                counter,
+                pool: readers.pool,
+                counter: readers.counter,
+                keeper: Some(readers.keeper),
+                kept,
             }),
             Err(fault) => {
                 drop(places);
@@ -163,12 +170,20 @@ fn published<L: LogName + SlotName, R: Wait>(
     alloc: Global,
     log: PublisherParts,
     seats: Vec<SlotSeat<L>>,
-) -> Result<(Publisher<L>, ReaderPool<L>, LogReader<L>), HubFault>
+    entries: Option<Vec<Entry>>,
+) -> Result<(Publisher<L>, Readers<L>, Option<usize>), HubFault>
     requires { log.history.seen.book ≡ L.book }
 {
     match Publisher::<L>::open(rt, log) {
-        Ok((publisher, readers)) => match parted(alloc, readers, seats) {
-            Some((pool, counter)) => Ok((publisher, pool, counter)),
+        Ok((mut publisher, readers)) => match parted(alloc, readers, seats) {
+            Some(readers) => match recovered(rt, alloc, &mut publisher, entries) {
+                Ok(kept) => Ok((publisher, readers, kept)),
+                Err(fault) => {
+                    drop(readers);
+                    publisher.close(rt);
+                    Err(fault)
+                }
+            },
             None => {
                 publisher.close(rt);
                 Err(HubFault::Memory)
@@ -178,14 +193,45 @@ fn published<L: LogName + SlotName, R: Wait>(
     }
 }
 
+/// Goes on by the records of a file, and aborts what was in progress; how many records the file has.
+fn recovered<L: LogName, R: Wait>(
+    rt: &R,
+    alloc: Global,
+    publisher: &mut Publisher<L>,
+    entries: Option<Vec<Entry>>,
+) -> Result<Option<usize>, HubFault> {
+    let Some(entries) = entries else {
+        return Ok(None);
+    };
+    replay(rt, alloc, publisher, entries.as_slice()).map_err(HubFault::Recovery)?;
+    let kept = publisher.count();
+    match publisher.abort_all(rt) {
+        Ok(()) => Ok(Some(kept)),
+        Err(_) => Err(HubFault::Memory),
+    }
+}
+
+/// Who reads the log: those of streams, one that finds where they begin, and one that writes it to a disk.
+#[derive(Drop)]
+struct Readers<L: LogName + SlotName> {
+    pool: ReaderPool<L>,
+    counter: LogReader<L>,
+    keeper: LogReader<L>,
+}
+
 fn parted<L: LogName + SlotName>(
     alloc: Global,
     mut readers: Vec<LogReader<L>>,
     seats: Vec<SlotSeat<L>>,
-) -> Option<(ReaderPool<L>, LogReader<L>)> {
+) -> Option<Readers<L>> {
     let counter = readers.pop()?;
+    let keeper = readers.pop()?;
     match ReaderPool::of(alloc, readers, seats) {
-        Ok(pool) => Some((pool, counter)),
+        Ok(pool) => Some(Readers {
+            pool,
+            counter,
+            keeper,
+        }),
         Err(_) => None,
     }
 }

@@ -27,8 +27,10 @@ impl<L: LogName + SlotName> ServerState<L> {
         let mut publisher = self.publisher.lock(rt);
         self.make_room(rt, &mut *publisher);
         let noted = noted(rt, &mut *publisher, prefix, content);
+        let count = publisher.count();
         self.let_go(rt, publisher);
         let (start, unheard) = noted?;
+        let _ = self.durability.await_synced(rt, count);
         self.spread(rt, unheard);
         Ok(start)
     }

@@ -259,10 +259,18 @@ impl<'h, L: LogName + SlotName, R: Wait + Clock> Transaction<'h, L, R> {
             spoilt,
         } = self;
         let (answer, unheard) = ended(rt, &mut *publisher, tx, time, spoilt, done);
+        let count = publisher.count();
         server_state.let_go(rt, publisher);
+        let is_synced = server_state.durability.await_synced(rt, count);
         if let Some(unheard) = unheard {
             server_state.spread(rt, unheard);
         }
-        answer
+        match answer {
+            Ok(done) if !is_synced => {
+                drop(done);
+                Err(E::from(EndFault::Unsynced))
+            }
+            answer => answer,
+        }
     }
 }

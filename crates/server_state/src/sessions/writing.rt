@@ -47,7 +47,9 @@ impl<'h, L: LogName + SlotName, R: Wait + Clock> Writing<'h, L, R> {
             publisher,
         } = self;
         let unheard = unheard_of(left, publisher.end());
+        let count = publisher.count();
         server_state.let_go(rt, publisher);
+        let _ = unheard.is_none() || server_state.durability.await_synced(rt, count);
         if let Some(unheard) = unheard {
             server_state.spread(rt, unheard);
         }
