@@ -27,13 +27,13 @@ const ROOM: usize = 1000;
 pub fn recover<R: Wait + Print>(rt: &R, alloc: Global, lives: &[String]) -> Result<()> {
     let mut file = Segment::create(alloc, Memory::new(alloc), KEY)?.end();
     for lines in lives {
-        file = live(rt, alloc, file, lines.as_str())?;
+        file = live(rt, alloc, file, lines)?;
     }
     file.crash();
     print_bytes(rt, alloc, file.bytes())
 }
 
-fn live<R: Wait>(rt: &R, alloc: Global, file: Memory, lines: &str) -> Result<Memory> {
+fn live<R: Wait>(rt: &R, alloc: Global, file: Memory, lines: &String) -> Result<Memory> {
     let opened = PublisherParts::new(alloc, configured(alloc)?, ROOM, 1)?;
     over_log::<Brand, R>(rt, alloc, opened, file, lines)
 }
@@ -44,13 +44,13 @@ fn over_log<L: LogName, R: Wait>(
     alloc: Global,
     opened: PublisherParts,
     file: Memory,
-    lines: &str,
+    lines: &String,
 ) -> Result<Memory>
     requires { opened.history.seen.book ≡ L.book }
 {
     let (mut publisher, mut readers) = Publisher::<L>::open(rt, opened)?;
     let left = match readers.pop() {
-        Some(reader) => go_on(rt, alloc, &mut publisher, reader, file, lines),
+        Some(reader) => go_on(rt, alloc, &mut publisher, reader, file, lines.as_str()),
         None => Err(Error::msg("a log has a reader")),
     };
     publisher.close(rt);
