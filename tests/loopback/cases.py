@@ -88,6 +88,28 @@ from large import (
     a_stream_whose_chunks_run_short_is_told_of,
     a_transaction_that_is_too_large_is_passed_once_it_is_undone,
 )
+from lasting import kills_leave_a_beginning_of_what_was_answered_from_memory, kills_lose_nothing_that_was_answered
+from lasting_disks import (
+    a_file_at_its_limit_refuses_commits_and_loses_none,
+    a_full_disk_refuses_commits_and_loses_none,
+    a_log_longer_than_its_records_goes_on,
+    a_small_log_in_a_folder_never_fills,
+)
+from lasting_files import (
+    a_damaged_byte_is_told_or_ends_the_log,
+    a_file_that_is_cut_anywhere_has_a_beginning,
+    a_file_that_is_no_log_is_refused,
+    a_folder_is_made_and_has_one_server,
+    a_folder_of_another_log_is_refused,
+)
+from lasting_slots import (
+    a_slot_that_was_given_up_stays_so,
+    commits_from_memory_stand_over_an_end,
+    rows_stand_over_kills,
+    slots_stand_over_each_end,
+    slots_stand_over_kills,
+    slots_stay_their_owners,
+)
 from link import Link
 from passwords import a_name_or_password_that_is_none_is_refused, a_password_becomes_the_line_of_its_user
 from printed_copies import a_copy_is_printed_as_one_transaction, cuts_and_kills_copy_each_row_once, what_a_copy_asks_for_has_to_be_there
@@ -443,6 +465,7 @@ LONG = [
     who_acknowledges_at_the_end_is_heard_out,
     who_reads_no_answer_before_its_startup_is_let_go,
     a_slow_reader_of_the_page_holds_up_nobody,
+    a_log_longer_than_its_records_goes_on,
 ]
 # What cache_service holds: it takes the place of subcat.
 OF_CACHES = [a_cache_holds_what_was_committed, a_cache_holds_up_nothing_that_it_is_not_sent, another_system_is_refused_by_a_cache]
@@ -561,4 +584,20 @@ ALL = [
     an_output_that_is_taken_away_ends_it,
     an_output_that_takes_nothing_for_now_is_written_again,
     a_follower_that_is_stopped_goes_on,
+    kills_lose_nothing_that_was_answered,
+    kills_leave_a_beginning_of_what_was_answered_from_memory,
+    slots_stand_over_each_end,
+    slots_stand_over_kills,
+    slots_stay_their_owners,
+    a_slot_that_was_given_up_stays_so,
+    rows_stand_over_kills,
+    commits_from_memory_stand_over_an_end,
+    a_small_log_in_a_folder_never_fills,
+    a_full_disk_refuses_commits_and_loses_none,
+    a_file_at_its_limit_refuses_commits_and_loses_none,
+    a_file_that_is_cut_anywhere_has_a_beginning,
+    a_damaged_byte_is_told_or_ends_the_log,
+    a_folder_of_another_log_is_refused,
+    a_folder_is_made_and_has_one_server,
+    a_file_that_is_no_log_is_refused,
 ]

@@ -42,7 +42,7 @@ latch_sync = declared_sync latch.the_type (search (heap.crosses, sendable) depth
 known_send : IsSend known.the_row
 known_send = declared_send known.the_type (
   search sendable,
-  (search (text.the_send, sendable) depth 10, (search sendable, (search sendable depth 10, (search sendable, (search sendable, (search sendable, (search sendable, (search sendable, (search sendable depth 20, (search sendable depth 10, (search sendable depth 30, (search sendable depth 20, (search sendable, (search sendable, (search sendable, (keeping.the_send, tt)))))))))))))))),
+  (search (text.the_send, sendable) depth 10, (search sendable, (search sendable depth 10, (search sendable, (search sendable, (search sendable, (search sendable, (search sendable, (search sendable depth 20, (search sendable depth 10, (search sendable depth 30, (search sendable depth 20, (search sendable, (search sendable, (search sendable, (keeping.the_send, (search sendable, tt))))))))))))))))),
 )
 
 pub monitor_sync : IsSync monitor.the_row

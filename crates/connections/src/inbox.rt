@@ -41,6 +41,8 @@ pub struct Work {
     pub phase: Phase,
     /// What the clock said when it was taken, in microseconds since 2000-01-01.
     pub clock: i64,
+    /// How many records of the log the stream may have read after it: none, before whoever takes it says more.
+    pub readable: usize,
 }
 
 impl Work {
@@ -128,6 +130,7 @@ impl Inbox {
               is_silent = self.old.is_silent;
               phase = self.old.phase;
               clock = self.old.clock;
+              readable = 0;
             } }
         ensures empty { self.new.said.items ≡ [] }
         ensures rest { (self.new.flushed ≡ None) × (self.new.asked ≡ 0)
@@ -146,6 +149,7 @@ impl Inbox {
             is_silent,
             phase: self.phase,
             clock: self.clock,
+            readable: 0,
         }
     }
 

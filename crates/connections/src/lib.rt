@@ -43,6 +43,7 @@ pub use slot::names::Names;
 pub use slot::slot_keeping::SlotKeeping;
 pub use slot::slot_monitor::SlotMonitor;
 pub use slot::slot_snapshot::SlotSnapshot;
+pub use slot::slot_standing::SlotStanding;
 pub use slot::stream_control::{StreamCommand, StreamControl};
 pub use socket::arrival::Arrival;
 pub use socket::crowd::hear_in_crowd;

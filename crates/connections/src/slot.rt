@@ -8,4 +8,5 @@ pub(crate) mod names;
 pub(crate) mod slot_keeping;
 pub(crate) mod slot_monitor;
 pub(crate) mod slot_snapshot;
+pub(crate) mod slot_standing;
 pub(crate) mod stream_control;

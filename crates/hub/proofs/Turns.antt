@@ -1,6 +1,7 @@
 -- Turns of a stream, one after the other.
-use Rattle.std.proofs.Common.{◌≡◌, ◌⊎◌, ℕ, ℤ, true, false, List, [], ◌∷◌, ◌++◌, Result, Ok, Err, inl, inr, refl, sym, ap, subst, ◌∙◌, append_assoc}
+use Rattle.std.proofs.Common.{◌≡◌, ◌⊎◌, ◌-◌, ℕ, ℤ, true, false, List, [], ◌∷◌, ◌++◌, Result, Ok, Err, inl, inr, refl, sym, ap, subst, ◌∙◌, append_assoc}
 use Rattle.std.proofs.Math.Logic.{∥∥₁_map}
+use Rattle.std.specs.Prelude.{min}
 use Rattle.std.specs.Result.{IsErr, is_err}
 use Rattle.std.specs.declared.option.Option.{Option}
 use Rattle.slots.specs.declared.words_kept.step.SeatView.{SeatView}
@@ -13,6 +14,7 @@ use Rattle.shared_log.specs.Readers.{seen_of}
 use Rattle.shared_log.specs.declared.following.reader.LogReader.{LogReader}
 use Rattle.wal.specs.Log.{end_of}
 use Rattle.walsender.specs.Turning.{fetched_from}
+use Rattle.walsender.specs.declared.stream_turn.limits.TheConstants.{TURN_RECORDS}
 use Rattle.server.specs.declared.connection.Phase.TheVariants as phases
 use Rattle.walsender.specs.declared.walsender.Walsender.{Walsender}
 use Rattle.pgoutput.specs.Words.{word_bytes}
@@ -21,24 +23,24 @@ use Rattle.walsender.specs.Serving.{IsServing, ReadsAndWrites, Serves}
 use Rattle.connections.specs.declared.fault.ConnectionEnd.{ConnectionEnd}
 use Rattle.connections.specs.declared.inbox.Work.{Work}
 use Rattle.hub.specs.Streams.{HasLearnt, StreamsOn, asking, keepalives}
-use Rattle.hub.specs.Turns.{Answers, Confirms, Ended, EndsTurns, LeavesSlot, ReadsWhole, Standing, TakesTurns, Turn, Turns, WritesStream, WritesUnder, WritesWhole, due_first, standing}
+use Rattle.hub.specs.Turns.{Answers, Confirms, Ended, EndsTurns, LeavesSlot, ReadsWhole, Standing, TakesTurns, Turn, Turns, WritesStream, WritesUnder, WritesWhole, due_first, most_read, standing}
 use Rattle.hub.proofs.Streams.{Gave, learnt, one_more}
 
 -- A turn was all that read: what was done before and after it read nothing.
-pub read_whole : {L : Type 0} (old asked turned new : Walsender L) → asked.sender.position ≡ old.sender.position → asked.reader ≡ old.reader → IsPrefix (settled_records turned.reader.told) (seen_of turned.reader)
-    → turned.sender.position ≡ end_of asked.sender.position (fetched_from asked.reader.place (seen_of turned.reader)) → new.sender.position ≡ turned.sender.position → new.reader ≡ turned.reader → new.sender.held ≡ [] → ReadsWhole old new
-read_whole old asked turned new before at sees read after same empty =
-    let From : ℕ → Type 0 = λ p. turned.sender.position ≡ end_of p (fetched_from asked.reader.place (seen_of turned.reader)) in
-    let At : LogReader _ → Type 0 = λ r. turned.sender.position ≡ end_of old.sender.position (fetched_from r.place (seen_of turned.reader)) in
-    let Seen : LogReader _ → Type 0 = λ r. turned.sender.position ≡ end_of old.sender.position (fetched_from old.reader.place (seen_of r)) in
+pub read_whole : {L : Type 0} (most : ℕ) (old asked turned new : Walsender L) → asked.sender.position ≡ old.sender.position → asked.reader ≡ old.reader → IsPrefix (settled_records turned.reader.told) (seen_of turned.reader)
+    → turned.sender.position ≡ end_of asked.sender.position (fetched_from most asked.reader.place (seen_of turned.reader)) → new.sender.position ≡ turned.sender.position → new.reader ≡ turned.reader → new.sender.held ≡ [] → ReadsWhole most old new
+read_whole most old asked turned new before at sees read after same empty =
+    let From : ℕ → Type 0 = λ p. turned.sender.position ≡ end_of p (fetched_from most asked.reader.place (seen_of turned.reader)) in
+    let At : LogReader _ → Type 0 = λ r. turned.sender.position ≡ end_of old.sender.position (fetched_from most r.place (seen_of turned.reader)) in
+    let Seen : LogReader _ → Type 0 = λ r. turned.sender.position ≡ end_of old.sender.position (fetched_from most old.reader.place (seen_of r)) in
     let Sees : LogReader _ → Type 0 = λ r. IsPrefix (settled_records r.told) (seen_of r) in
     record { sees = subst Sees (sym same) sees; reads = after ∙ subst Seen (sym same) (subst At at (subst From before read)); whole = empty }
 
 -- one that was told of a commit before it
-told_whole : {L : Type 0} (old informed new : Walsender L) → HasLearnt old informed → ReadsWhole informed new → ReadsWhole old new
-told_whole old informed new is reads =
-    let From : SenderState → Type 0 = λ s. new.sender.position ≡ end_of s.position (fetched_from informed.reader.place (seen_of new.reader)) in
-    let At : ℕ → Type 0 = λ place. new.sender.position ≡ end_of old.sender.position (fetched_from place (seen_of new.reader)) in
+told_whole : {L : Type 0} (most : ℕ) (old informed new : Walsender L) → HasLearnt old informed → ReadsWhole most informed new → ReadsWhole most old new
+told_whole most old informed new is reads =
+    let From : SenderState → Type 0 = λ s. new.sender.position ≡ end_of s.position (fetched_from most informed.reader.place (seen_of new.reader)) in
+    let At : ℕ → Type 0 = λ place. new.sender.position ≡ end_of old.sender.position (fetched_from most place (seen_of new.reader)) in
     record { sees = reads.sees; reads = subst At is.place (subst From is.sender reads.reads); whole = reads.whole }
 
 -- more is held of it, and of that more is lent
@@ -48,13 +50,13 @@ held_on a b c held first then =
     subst With (sym then) (ap (λ (s : SenderState). record s { held = held; lent = b.lent }) first)
 
 -- What was due before the log was read was held after all that was written of it; then the turn read under the clock.
-pub writes_under : {L : Type 0} (clock : ℤ) (old answered asked turned new : Walsender L) (before between middle after : Option (List ℕ)) (promised more : List ℕ) → Gave promised answered.sender.held before between
+pub writes_under : {L : Type 0} (most : ℕ) (clock : ℤ) (old answered asked turned new : Walsender L) (before between middle after : Option (List ℕ)) (promised more : List ℕ) → Gave promised answered.sender.held before between
     → asked.sender.held ≡ answered.sender.held ++ more → asked.sender ≡ record old.sender { held = asked.sender.held; lent = asked.sender.lent }
-    → ReadsAndWrites clock asked.sender turned.sender (fetched_from asked.reader.place (seen_of turned.reader)) between middle → asked.reader ≡ old.reader → new.reader ≡ turned.reader
-    → (after ≡ middle) ⊎ Appends middle after (word_bytes (keepalive_word turned.sender.position clock false)) → WritesUnder clock (promised ++ more) old new before after
-writes_under clock old answered asked turned new before between middle after promised more (early, whole, first) held rest reads at same last =
-    let At : LogReader _ → Type 0 = λ r. ReadsAndWrites clock asked.sender turned.sender (fetched_from r.place (seen_of turned.reader)) between middle in
-    let Seen : LogReader _ → Type 0 = λ r. ReadsAndWrites clock asked.sender turned.sender (fetched_from old.reader.place (seen_of r)) between middle in
+    → ReadsAndWrites clock asked.sender turned.sender (fetched_from most asked.reader.place (seen_of turned.reader)) between middle → asked.reader ≡ old.reader → new.reader ≡ turned.reader
+    → (after ≡ middle) ⊎ Appends middle after (word_bytes (keepalive_word turned.sender.position clock false)) → WritesUnder most clock (promised ++ more) old new before after
+writes_under most clock old answered asked turned new before between middle after promised more (early, whole, first) held rest reads at same last =
+    let At : LogReader _ → Type 0 = λ r. ReadsAndWrites clock asked.sender turned.sender (fetched_from most r.place (seen_of turned.reader)) between middle in
+    let Seen : LogReader _ → Type 0 = λ r. ReadsAndWrites clock asked.sender turned.sender (fetched_from most old.reader.place (seen_of r)) between middle in
     record {
       early = early;
       between = between;
@@ -69,10 +71,10 @@ writes_under clock old answered asked turned new before between middle after pro
     }
 
 -- one that was told of a commit before it
-told_under : {L : Type 0} (clock : ℤ) (due : List ℕ) (old informed new : Walsender L) (before after : Option (List ℕ)) → HasLearnt old informed → WritesUnder clock due informed new before after → WritesUnder clock due old new before after
-told_under clock due old informed new before after is writes =
+told_under : {L : Type 0} (most : ℕ) (clock : ℤ) (due : List ℕ) (old informed new : Walsender L) (before after : Option (List ℕ)) → HasLearnt old informed → WritesUnder most clock due informed new before after → WritesUnder most clock due old new before after
+told_under most clock due old informed new before after is writes =
     let Same : SenderState → Type 0 = λ s. writes.asked ≡ record s { held = writes.asked.held; lent = writes.asked.lent } in
-    let At : ℕ → Type 0 = λ place. ReadsAndWrites clock writes.asked writes.read (fetched_from place (seen_of new.reader)) writes.between writes.turned in
+    let At : ℕ → Type 0 = λ place. ReadsAndWrites clock writes.asked writes.read (fetched_from most place (seen_of new.reader)) writes.between writes.turned in
     record {
       early = writes.early;
       between = writes.between;
@@ -97,12 +99,18 @@ told_turn place here work old informed new seat seat_then seat_after before afte
       one_more old informed new before before after (learnt old informed before is) goes,
     )
 
+-- and reads as much
+same_most : {L : Type 0} (work : Work) (old informed : Walsender L) → HasLearnt old informed → most_read work informed ≡ most_read work old
+same_most work old informed is = ap (λ (place : ℕ). min TURN_RECORDS (work.readable - place)) is.place
+
 -- what it answered, likewise
 pub told_answers : {L : Type 0} (work : Work) (old informed new : Walsender L) (seat seat_then seat_after : SeatView) (before after : Option (List ℕ)) → HasLearnt old informed
     → (work.phase ≡ phases.Closed) ⊎ WritesWhole work informed new before after → Answers work (standing old seat before) (standing new seat_after after)
 told_answers work old informed new seat seat_then seat_after before after is (inl over) = inl over
 told_answers work old informed new seat seat_then seat_after before after is (inr (first, writes, reads)) =
-    let Due : SenderState → Type 0 = λ s. WritesUnder work.clock ((s.held ++ keepalives s.position work.clock work.asked) ++ asking work.is_silent s.position work.clock) informed new before after in
+    let Due : SenderState → Type 0 = λ s. WritesUnder (most_read work informed) work.clock ((s.held ++ keepalives s.position work.clock work.asked) ++ asking work.is_silent s.position work.clock) informed new before after in
+    let Under : ℕ → Type 0 = λ most. WritesUnder most work.clock (due_first work old) informed new before after in
+    let Whole : ℕ → Type 0 = λ most. ReadsWhole most informed new in
     inr (
       λ written serving.
           let Seen : List Record → Type 0 = λ log. IsServing log old.reader.place written old.sender in
@@ -111,8 +119,8 @@ told_answers work old informed new seat seat_then seat_after before after is (in
           let (more, appended) = first written (subst By (sym is.sender) (subst At (sym is.place) (subst Seen (sym is.seen) serving))) in
           let Wrote : SenderState → Type 0 = λ s. Appends before after (((s.held ++ keepalives s.position work.clock work.asked) ++ asking work.is_silent s.position work.clock) ++ more) in
           (more, subst Wrote is.sender appended),
-      told_under work.clock (due_first work old) old informed new before after is (subst Due is.sender writes),
-      told_whole old informed new is reads,
+      told_under (most_read work old) work.clock (due_first work old) old informed new before after is (subst Under (same_most work old informed is) (subst Due is.sender writes)),
+      told_whole (most_read work old) old informed new is (subst Whole (same_most work old informed is) reads),
     )
 
 -- one turn more after others, all of which went well

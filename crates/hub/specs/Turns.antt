@@ -1,5 +1,5 @@
 -- What a stream does of the work that its connection brings, turn by turn, and what that leaves of its slot.
-use Rattle.std.specs.Prelude.{◌≡◌, ◌⊎◌, ℕ, ℤ, false, List, [], ◌∷◌, ◌++◌, Option, Some, None, Result, Ok, Err, max, min, take}
+use Rattle.std.specs.Prelude.{◌≡◌, ◌⊎◌, ◌-◌, ℕ, ℤ, false, List, [], ◌∷◌, ◌++◌, Option, Some, None, Result, Ok, Err, max, min, take}
 use mathlib.Core.List.{IsPrefix}
 use Rattle.std.specs.Io.KnownBytes.{Appends}
 use Rattle.shared_log.specs.SeenPrefixes.{settled_records}
@@ -15,6 +15,7 @@ use Rattle.pgoutput.specs.Items.{keepalive_word}
 use Rattle.walsender.specs.Sending.{SenderState}
 use Rattle.walsender.specs.Serving.{ReadsAndWrites, Serves, WritesFirst}
 use Rattle.walsender.specs.Turning.{fetched_from}
+use Rattle.walsender.specs.declared.stream_turn.limits.TheConstants.{TURN_RECORDS}
 use Rattle.walsender.specs.declared.fault.SendFault.TheVariants.{ArenaFull}
 use Rattle.walsender.specs.declared.stream_turn.turn_fault.TurnFault.{TurnFault}
 use Rattle.walsender.specs.declared.stream_turn.turn_fault.TurnFault.TheVariants as turns
@@ -43,15 +44,19 @@ standing walsender seat written = record { walsender = walsender; seat = seat; w
 abbrev pub Turn : {L : Type 0} → ℕ → Work → Standing L → Standing L → Type 0
 Turn place work old new = Confirms work.flushed old.walsender.sender.position place old.seat new.seat × StreamsOn old.walsender new.walsender old.written new.written
 
+-- how many records a turn reads at most: no more than make as many as its work says
+abbrev pub most_read : {L : Type 0} → Work → Walsender L → ℕ
+most_read work old = min TURN_RECORDS (work.readable - old.reader.place)
+
 -- Its reader sees all that it was told of. What it sees from its place on was read, as many records as a turn takes, and nothing is held back.
-pub record ReadsWhole {L : Type 0} (old new : Walsender L) : Type 0 where
+pub record ReadsWhole {L : Type 0} (most : ℕ) (old new : Walsender L) : Type 0 where
   pub sees : IsPrefix (settled_records new.reader.told) (seen_of new.reader)
-  pub reads : new.sender.position ≡ end_of old.sender.position (fetched_from old.reader.place (seen_of new.reader))
+  pub reads : new.sender.position ≡ end_of old.sender.position (fetched_from most old.reader.place (seen_of new.reader))
   pub whole : new.sender.held ≡ []
 
 -- All that it writes is under one clock: what is due before the log is read, of which a part may be held until then; what was read; and a
 -- keepalive after that, if there is one.
-pub record WritesUnder {L : Type 0} (clock : ℤ) (due : List ℕ) (old new : Walsender L) (before after : Option (List ℕ)) : Type 0 where
+pub record WritesUnder {L : Type 0} (most : ℕ) (clock : ℤ) (due : List ℕ) (old new : Walsender L) (before after : Option (List ℕ)) : Type 0 where
   pub early : List ℕ
   pub between : Option (List ℕ)
   pub first : Appends before between early
@@ -60,7 +65,7 @@ pub record WritesUnder {L : Type 0} (clock : ℤ) (due : List ℕ) (old new : Wa
   pub parts : early ++ asked.held ≡ due
   pub read : SenderState
   pub turned : Option (List ℕ)
-  pub reads : ReadsAndWrites clock asked read (fetched_from old.reader.place (seen_of new.reader)) between turned
+  pub reads : ReadsAndWrites clock asked read (fetched_from most old.reader.place (seen_of new.reader)) between turned
   pub last : (after ≡ turned) ⊎ Appends turned after (word_bytes (keepalive_word read.position clock false))
 
 -- what it is to write before all else: what was held, a keepalive for each status that asked, and one that asks a silent client
@@ -69,7 +74,7 @@ due_first work old = (old.sender.held ++ keepalives old.sender.position work.clo
 
 -- what it wrote under the work's clock, where it went well
 abbrev pub WritesWhole : {L : Type 0} → Work → Walsender L → Walsender L → Option (List ℕ) → Option (List ℕ) → Type 0
-WritesWhole work old new before after = WritesFirst (due_first work old) old before after × WritesUnder work.clock (due_first work old) old new before after × ReadsWhole old new
+WritesWhole work old new before after = WritesFirst (due_first work old) old before after × WritesUnder (most_read work old) work.clock (due_first work old) old new before after × ReadsWhole (most_read work old) old new
 
 -- It went well, unless the connection is over: what is due was written before all else, and all that could be read was read and written.
 abbrev pub Answers : {L : Type 0} → Work → Standing L → Standing L → Type 0

@@ -6,11 +6,14 @@ ghost use Rattle.server_state.specs.Ending.{HasBegun};
 use crate::listener_handle::ListenerHandle;
 use connections::User;
 use pqformat::Items;
+use segments::{KeepFault, Segment};
 use server_state::{
-    HubBuilder, HubFault, HubStatus, ServerState, SteerFault, Transaction, Writing,
+    DiskFault, HubBuilder, HubFault, HubStatus, NoteFault, ServerState, SteerFault, Transaction,
+    Writing,
 };
 use shared_log::LogName;
 use slots::SlotName;
+use sqlite_disk::Disk;
 use std::alloc::{AllocError, Global};
 use std::sync::Wait;
 use std::thread;
@@ -30,7 +33,8 @@ pub struct Hub<L: LogName + SlotName> {
 }
 
 impl<L: LogName + SlotName> Hub<L> {
-    /// A hub with an empty log and no slots. `Memory` where memory is refused: then nothing is left of it.
+    /// A hub with an empty log and no slots; or one whose log goes on by entries, with the slots that it had. `Memory` where memory is
+    /// refused, `Recovery` and `Slots` where it doesn't go on: then nothing is left of it.
     pub fn open<R: Wait>(rt: &R, opened: HubBuilder) -> Result<Self, HubFault>
         requires log { opened.log.history.seen.book ≡ L.book }
         requires slots { opened.slots.first.table_id ≡ L.table }
@@ -72,8 +76,9 @@ impl<L: LogName + SlotName> Hub<L> {
     }
 
     /// Writes a message outside of all transactions, and answers the position where its record starts. Refused in this order, and
-    /// then nobody hears of it: `BadPrefix` (S13), `TooLarge` (S6) where its content is, `LogFull` (S7), `Memory` (S11). Streams
-    /// that ask for messages send it at once, whatever transactions do (PostgreSQL 15, 9.27.6).
+    /// then nobody hears of it: `Failed` where the log's disk has, `BadPrefix` (S13), `TooLarge` (S6) where its content is, `LogFull`
+    /// (S7), `Memory` (S11). Streams that ask for messages send it at once, whatever transactions do (PostgreSQL 15, 9.27.6). Where
+    /// the log is kept on a disk, it is answered once it is there.
     ///
     /// It waits until no `Transaction` is in progress, so a thread that has one ends it first.
     pub fn note<R: Wait + Clock>(
@@ -81,8 +86,31 @@ impl<L: LogName + SlotName> Hub<L> {
         rt: &R,
         prefix: &str,
         content: &[u8],
-    ) -> Result<u64, SessionFault> {
+    ) -> Result<u64, NoteFault> {
         self.server_state.note(rt, prefix, content)
+    }
+
+    // ---- what is on the disk
+
+    /// Puts what is written into this segment, until `end_keeping` is called: all that there is then, too. The hub was opened by its
+    /// entries (`HubBuilder::entries`). Where a write or a sync fails, commits are refused from then on, and all else goes on; it is
+    /// answered at once. `Behind` where the hub wasn't opened by entries.
+    pub fn keep<D: Disk + Drop, R: Wait + Clock>(
+        &self,
+        rt: &R,
+        segment: Segment<D>,
+    ) -> Result<(), KeepFault> {
+        self.server_state.keep(rt, segment)
+    }
+
+    /// The server ends, and nothing more is written: what there is is put on the disk, and then `keep` ends.
+    pub fn end_keeping<R: Wait>(&self, rt: &R) {
+        self.server_state.end_keeping(rt);
+    }
+
+    /// Why nothing may be written, if nothing may: the disk has failed.
+    pub fn disk_fault<R: Wait>(&self, rt: &R) -> Option<DiskFault> {
+        self.server_state.disk_fault(rt)
     }
 
     // ---- who may connect
@@ -167,6 +195,7 @@ impl<L: LogName + SlotName> Hub<L> {
     /// confirmed, and its connection is closed. Each other connection is closed at once. Ten seconds later those that aren't
     /// over are cut off.
     pub fn stop<R: Wait + Clock>(&self, rt: &R, listener: &ListenerHandle) {
+        self.server_state.settle(rt);
         self.server_state.shut_down(rt);
         listener.shut();
         for _ in 0..RESTS {

@@ -28,9 +28,9 @@ pub use named_rows::{Datum, FieldFault, NamedDatum, RowView, field};
 pub use server::Refusal;
 pub use server_host::ServerHost;
 pub use server_state::{
-    ChangeFault, ConfigurationFault, EndFault, HubBuilder, HubFault, HubSettings, HubStatus, Left,
-    NewMember, NewPublication, NewTable, Savepoint, ServeFault, SlotStatus, SteerFault,
-    Transaction, Writing,
+    ChangeFault, ConfigurationFault, DiskFault, DiskStatus, EndFault, HubBuilder, HubFault,
+    HubSettings, HubStatus, Left, NewMember, NewPublication, NewTable, NoteFault, OtherLog,
+    Savepoint, ServeFault, SlotStatus, SteerFault, Transaction, Writing, judge_identity,
 };
 pub use service::{HubName, Service};
 pub use service_hub::{WithHubFault, with_hub};

@@ -1,6 +1,6 @@
 //! Why an order isn't placed.
 
-use hub::{ChangeFault, EndFault, SessionFault};
+use hub::{ChangeFault, EndFault, NoteFault, SessionFault};
 use thiserror::Error;
 
 #[derive(Clone, Copy, Debug, PartialEq, Eq, Error)]
@@ -11,6 +11,8 @@ pub enum OrderFault {
     Change(#[from] ChangeFault),
     #[error("{0}")]
     Session(#[from] SessionFault),
+    #[error("{0}")]
+    Note(#[from] NoteFault),
     #[error("{0}")]
     End(#[from] EndFault),
 }

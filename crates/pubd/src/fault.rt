@@ -3,6 +3,8 @@
 use crate::options::command_fault::CommandFault;
 use crate::options::password::PasswordFault;
 use crate::options::user_file::UserFileFault;
+use crate::running::data_folder::FolderFault;
+use crate::running::inspecting::InspectionFault;
 use crate::scripting::ScriptFileFault;
 use command_line::{Ending, WordsFault};
 use configuration::ConfigFileFault;
@@ -23,6 +25,10 @@ pub enum Fault {
     Password(#[from] PasswordFault),
     #[error("{0}")]
     Users(#[from] UserFileFault),
+    #[error("{0}")]
+    Folder(#[from] FolderFault),
+    #[error("{0}")]
+    Inspection(#[from] InspectionFault),
     #[error("{0}")]
     Hub(HubFault),
     #[error("no name can be chosen for the system: {0}")]
@@ -50,12 +56,17 @@ impl Ending for Fault {
             Fault::Config(fault) if fault.is_bad_configuration() => 2,
             Fault::Script(fault) if fault.is_bad_script() => 2,
             Fault::Password(fault) if fault.is_bad_input() => 2,
-            Fault::Hub(HubFault::LongName) | Fault::SignalNotBlocked => 2,
+            Fault::Folder(fault) if fault.is_bad_folder() => 2,
+            Fault::Inspection(fault) if fault.is_bad_file() => 2,
+            Fault::Hub(HubFault::LongName | HubFault::Recovery(_, _) | HubFault::Slots(_))
+            | Fault::SignalNotBlocked => 2,
             Fault::Users(fault) if fault.is_bad_file() => 2,
             Fault::Config(_)
             | Fault::Script(_)
             | Fault::Password(_)
             | Fault::Users(_)
+            | Fault::Folder(_)
+            | Fault::Inspection(_)
             | Fault::Hub(HubFault::Memory)
             | Fault::System(_)
             | Fault::Listen(_)

@@ -18,18 +18,23 @@ mod status;
 use command_line::{arguments_of, ended};
 use configuration::config_at;
 use fault::Fault;
+use hub::HubBuilder;
 use options::command::words_of;
 use options::command_fault::CommandFault;
 use options::password::tell_password;
 use options::user_file::{UserFile, asked_users};
 use options::words::{Numbers, Words};
 use running::beginning::{begin_reading, begin_telling, begin_watching};
+use running::data_folder::DataFolder;
 use running::descriptors::open_standard;
 use running::ending::ListenerHandles;
 use running::host::{Host, SharedHost};
+use running::inspecting::inspect;
 use running::opening::opened;
 use running::serving::{ServerParts, served};
 use scripting::{STANDARD_INPUT, Script, scripts_at};
+use segments::Segment;
+use sqlite_std_file::File;
 use standard_error::error_log::ErrorLog;
 use standard_error::level::Level;
 use std::io;
@@ -66,9 +71,10 @@ where
     R: Host,
 {
     let words = words_of(rt.alloc(), arguments)?;
-    match words.password_of {
-        Some(name) => Ok(tell_password(rt, name)?),
-        None => run_words(rt, host, &words),
+    match (words.password_of, words.inspected) {
+        (Some(name), _) => Ok(tell_password(rt, name)?),
+        (None, Some(folder)) => Ok(inspect(rt, folder)?),
+        (None, None) => run_words(rt, host, &words),
     }
 }
 
@@ -84,6 +90,7 @@ where
         numbers: &numbers,
         scripts: scripts.as_slice(),
         passwords: words.passwords,
+        data: words.data,
         has_input: words.scripts.as_slice().contains(&STANDARD_INPUT),
     };
     listen(rt, host, &asked)
@@ -97,6 +104,8 @@ struct Invocation<'a> {
     scripts: &'a [Script],
     /// The file of those that may connect.
     passwords: Option<&'a str>,
+    /// The folder in which the log is kept.
+    data: Option<&'a str>,
     /// Whether lines come from the standard input.
     has_input: bool,
 }
@@ -168,9 +177,24 @@ where
     let mut opened = opened(rt, config, asked.numbers)?;
     opened.users = asked_users(rt, asked.passwords)?;
     warn(host, asked, &told);
-    let done = served::<Brand, R, _>(host, opened, service, &told, &rt.stdout());
+    let segment = segment_of(rt, asked.data, &mut opened)?;
+    let done = served::<Brand, R, _>(host, opened, segment, service, &told, &rt.stdout());
     told.end(host);
     done
+}
+
+/// The segment in which the log is kept, if it is: the hub goes on by its entries.
+fn segment_of(
+    rt: &HostRuntime,
+    data: Option<&str>,
+    opened: &mut HubBuilder,
+) -> Result<Option<Segment<File>>, Fault> {
+    let Some(path) = data else {
+        return Ok(None);
+    };
+    let DataFolder { segment, entries } = DataFolder::open(rt, path, opened.identity())?;
+    opened.entries = Some(entries);
+    Ok(Some(segment))
 }
 
 /// Tells that everyone may connect, and not from this machine alone.

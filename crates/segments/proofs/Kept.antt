@@ -1,16 +1,26 @@
 -- A segment that has the records of a log, and one more.
-use Rattle.std.proofs.Common.{◌≡◌, ℕ, ◌+◌, ◌<◌, ◌≤◌, List, [], ◌∷◌, ◌++◌, length, take, drop, map, get_or, Result, Ok, Err, OnOk, refl, sym, ap, subst, ◌∙◌, append_assoc, arith}
+use Rattle.std.proofs.Common.{◌≡◌, ◌⊎◌, ℕ, ◌+◌, ◌<◌, ◌≤◌, true, List, [], ◌∷◌, ◌++◌, length, take, drop, map, get_or, Result, Ok, Err, OnOk, inl, inr, refl, sym, ap, subst, ◌∙◌, append_assoc, arith}
 use Rattle.std.proofs.lemmas.List.{length-append, length-drop, length-take, map-append, take-append-drop, take-append-le, take-map, take_more}
+use Rattle.std.specs.Prelude.{IfErr}
 use mathlib.Core.List.{IsPrefix}
 use Rattle.shared_log.proofs.Reading.{take_add}
 use Rattle.std.specs.declared.sync.Arc.{Arc}
 use Rattle.wal.specs.Records.{shared_records}
+use Rattle.wal.specs.Restart.{is_in_progress, place_from, restart_place}
+use Rattle.wal.proofs.Restarts.{within}
 use Rattle.wal.specs.declared.record.Record.{Record}
 use Rattle.segments.specs.Contents.{HasWritten}
 use Rattle.segments.specs.Entries.{Written}
 use Rattle.segments.specs.Keeping.{HasLogged, bodies_of}
+use Rattle.segments.specs.Kinds.{is_beside, records_in}
+use Rattle.segments.specs.SlotEvents.{spell_event}
+use Rattle.segments.specs.declared.slot_events.slot_event.SlotEvent.{SlotEvent}
+use Rattle.segments.specs.declared.slot_events.slot_event.SlotEvent.TheVariants.{Stands, Dropped}
+use Rattle.segments.proofs.Beside.{beside_last, record_last, spelled_no_beside}
 use Rattle.segments.specs.Records.{SpellsRecord}
 use Rattle.segments.specs.Recovery.{AreTold}
+use Rattle.segments.specs.declared.fault.SegmentFault.{SegmentFault}
+use Rattle.segments.specs.declared.fault.SegmentFault.TheVariants.{Disk}
 use Rattle.segments.specs.declared.segment.Segment.{Segment}
 
 told_more : (es : List Written) (log : List Record) (e : Written) (r : Record) → AreTold es (bodies_of log) → SpellsRecord e.body r.body → AreTold (es ++ e ∷ []) (bodies_of (log ++ r ∷ []))
@@ -20,7 +30,20 @@ told_more (f ∷ es) [] e r told spells = absurd told
 told_more (f ∷ es) (s ∷ log) e r told spells = (told.0, told_more es log e r told.1 spells)
 
 pub one_more : {D : Type 0} (seen : D → List ℕ) (old new : Segment D) (log : List Record) (e : Written) (r : Record) (has : HasLogged seen old log) → HasWritten seen new (has.es ++ e ∷ []) → SpellsRecord e.body r.body → HasLogged seen new (log ++ r ∷ [])
-one_more seen old new log e r has written spells = record { es = has.es ++ e ∷ []; written = written; told = told_more has.es log e r has.told spells }
+one_more seen old new log e r has written spells = record {
+  es = has.es ++ e ∷ [];
+  written = written;
+  told = subst (λ (l : List Written). AreTold l (bodies_of (log ++ r ∷ []))) (sym (record_last has.es e (spelled_no_beside e.body r.body spells))) (told_more (records_in has.es) log e r has.told spells);
+}
+
+-- an entry beside the records changes nothing of them
+pub one_beside : {D : Type 0} (seen : D → List ℕ) (old new : Segment D) (log : List Record) (e : Written) (has : HasLogged seen old log) → HasWritten seen new (has.es ++ e ∷ []) → is_beside e.body ≡ true → HasLogged seen new log
+one_beside seen old new log e has written beside =
+    record { es = has.es ++ e ∷ []; written = written; told = subst (λ (l : List Written). AreTold l (bodies_of log)) (sym (beside_last has.es e beside)) has.told }
+
+pub event_beside : (event : SlotEvent) → is_beside (spell_event event) ≡ true
+event_beside (Stands slot) = refl
+event_beside (Dropped name) = refl
 
 pub then_ok : {A E : Type 0} (r : Result A E) {P Q : Type 0} → OnOk r P → (P → Q) → OnOk r Q
 then_ok (Ok a) p f = f p
@@ -43,9 +66,9 @@ taken {A} log arcs n item below is =
 
 -- of what a reader sees now so many more were written
 pub reached : (old seen v : List Record) (place written max : ℕ) → IsPrefix old seen → place ≤ length old → v ≡ take max (drop place seen) → written ≤ length v → take place old ++ take written v ≡ take (place + written) seen
-reached old seen v place written max front within is few =
+reached old seen v place written max front inside is few =
     let rest = drop place seen in
-    let first : take place old ≡ take place seen = sym (take-append-le place old front.0 within) ∙ ap (λ (l : List Record). take place l) front.1 in
+    let first : take place old ≡ take place seen = sym (take-append-le place old front.0 inside) ∙ ap (λ (l : List Record). take place l) front.1 in
     let low : written ≤ length (take max rest) = subst (λ (l : List Record). written ≤ length l) is few in
     let second : take written v ≡ take written rest =
     ap (λ (l : List Record). take written l) is ∙ sym (take-append-le written (take max rest) (drop max rest) low) ∙ ap (λ (l : List Record). take written l) (take-append-drop max rest) in
@@ -60,6 +83,22 @@ reached_there old seen arcs place written max now front within is few at = reach
 
 -- the place after a fetch is one that was seen
 pub still_within : {A : Type 0} (old seen : List Record) (arcs : List (Arc Record A)) (place max now : ℕ) → IsPrefix old seen → place ≤ length old → shared_records arcs ≡ take max (drop place seen) → now ≡ place + length arcs → now ≤ length seen
-still_within old seen arcs place max now front within is at =
+still_within old seen arcs place max now front low is at =
     let rest = drop place seen in
-    omega (arith, at, within, shared_length arcs, ap length is, length-take max rest, length-drop place seen, ap length front.1, length-append old front.0)
+    omega (arith, at, low, shared_length arcs, ap length is, length-take max rest, length-drop place seen, ap length front.1, length-append old front.0)
+
+-- it was written, or nothing was
+pub beside_kept : {D : Type 0} (seen : D → List ℕ) (old new : Segment D) (log : List Record) (r : Result (Unit {0}) SegmentFault) (e : Written) → is_beside e.body ≡ true
+    → OnOk r ((es : List Written) → HasWritten seen old es → HasWritten seen new (es ++ e ∷ []))
+    → IfErr r (λ fault. (fault ≡ Disk) ⊎ ((es : List Written) → HasWritten seen old es → HasWritten seen new es))
+    → (r ≡ Err Disk → ⊥) → HasLogged seen old log → HasLogged seen new log
+beside_kept seen old new log (Ok u) e beside wrote other never has = one_beside seen old new log e has (wrote has.es has.written) beside
+beside_kept seen old new log (Err fault) e beside wrote (inl is) never has = absurd (never (ap Err is))
+beside_kept seen old new log (Err fault) e beside wrote (inr same) never has = record { es = has.es; written = same has.es has.written; told = has.told }
+
+-- ---- the place from which a log is read
+
+pub restart_within : (known : List Record) (start : ℕ) → restart_place start known ≤ length known
+restart_within known start =
+    let n = place_from start known in
+    omega (arith, within (is_in_progress (take n known)) (take n known), length-take n known)

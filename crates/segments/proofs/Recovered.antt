@@ -1,5 +1,5 @@
 -- What entries tell of a log: the more of them, the longer the log.
-use Rattle.std.proofs.Common.{◌≡◌, ℕ, ◌+◌, ◌<◌, Bool, true, false, cond, eqb, List, [], ◌∷◌, ◌++◌, length, take, get_or, refl, sym, ap, subst, ◌∙◌, append_assoc}
+use Rattle.std.proofs.Common.{◌≡◌, ℕ, ◌+◌, ◌<◌, Bool, true, false, cond, eqb, List, [], ◌∷◌, ◌++◌, length, take, get_or, inl, inr, refl, sym, ap, subst, ◌∙◌, append_assoc}
 use Rattle.std.proofs.lemmas.List.{append-nil, take_more}
 use mathlib.Core.List.{IsPrefix}
 use Rattle.std.specs.List.{AllByRecursion}
@@ -13,7 +13,9 @@ use Rattle.wal.specs.declared.record.Body.{Body}
 use Rattle.wal.specs.declared.record.Record.{Record}
 use Rattle.segments.specs.Entries.{Written}
 use Rattle.segments.specs.Records.{SpellsRecord}
-use Rattle.segments.specs.Recovery.{AreTold, Replays, ReplaysOne, log_after}
+use Rattle.segments.specs.Recovery.{AreTold, Replays, ReplaysEntry, ReplaysOne, log_after}
+use Rattle.segments.specs.Kinds.{is_beside, records_in}
+use Rattle.segments.proofs.Beside.{beside_last, record_last, records_begin, spelled_no_beside}
 use Rattle.segments.proofs.Prefixes.{head_same, tail_same}
 use Rattle.segments.proofs.Told.{one_spelling}
 
@@ -49,12 +51,23 @@ told_after (f ∷ es) (c ∷ bodies) e b told spells = (told.0, told_after es bo
 pub none_replayed : (log : List Record) → Replays [] log log
 none_replayed log = record { bodies = []; told = tt; log = refl }
 
+one_replayed : (es : List Written) (e : Written) (old middle new : List Record) → Replays es old middle → ReplaysEntry e.body middle new → Replays (es ++ e ∷ []) old new
+one_replayed es e old middle new front (inl (beside, same)) =
+    record { bodies = front.bodies; told = subst (λ (l : List Written). AreTold l front.bodies) (sym (beside_last es e beside)) front.told; log = same ∙ front.log }
+one_replayed es e old middle new front (inr one) =
+    let last = subst (λ (log : List Record). new ≡ log ++ record_after log one.body ∷ []) front.log one.log in
+    let told = told_after (records_in es) front.bodies e one.body front.told one.told in
+    record {
+      bodies = front.bodies ++ one.body ∷ [];
+      told = subst (λ (l : List Written). AreTold l (front.bodies ++ one.body ∷ [])) (sym (record_last es e (spelled_no_beside e.body one.body one.told))) told;
+      log = last ∙ sym (log_after_more old front.bodies one.body);
+    }
+
 -- one entry more
-pub replays_more : (es : List Written) (i : ℕ) (e : Written) (old middle new : List Record) → i < length es → e ≡ get_or es i e → Replays (take i es) old middle → ReplaysOne e.body middle new → Replays (take (i + 1) es) old new
+pub replays_more : (es : List Written) (i : ℕ) (e : Written) (old middle new : List Record) → i < length es → e ≡ get_or es i e → Replays (take i es) old middle → ReplaysEntry e.body middle new → Replays (take (i + 1) es) old new
 replays_more es i e old middle new below is front one =
     let step : take (i + 1) es ≡ take i es ++ e ∷ [] = take_more es i e below ∙ ap (λ (f : Written). take i es ++ f ∷ []) (sym is) in
-    let last = subst (λ (log : List Record). new ≡ log ++ record_after log one.body ∷ []) front.log one.log in
-    subst (λ (l : List Written). Replays l old new) (sym step) (record { bodies = front.bodies ++ one.body ∷ []; told = told_after (take i es) front.bodies e one.body front.told one.told; log = last ∙ sym (log_after_more old front.bodies one.body) })
+    subst (λ (l : List Written). Replays l old new) (sym step) (one_replayed (take i es) e old middle new front one)
 
 -- ---- a log by what its records say
 
@@ -75,11 +88,11 @@ from_bodies front (r ∷ rest) follow sized = by_test (eqb r.start (end_of FIRST
         ap (λ (s : Record). log_after (front ++ s ∷ []) (bodies_of rest)) same ∙ inner next ∙ append_assoc front (r ∷ []) rest
     by_test false is inner follow = absurd cc
 
-pub recovered : (log other : List Record) (es found : List Written) → IsWellFormedLog log → AreTold es (bodies_of log) → Replays found [] other → (IsPrefix found es → IsPrefix other log) × (IsPrefix es found → IsPrefix log other)
+pub recovered : (log other : List Record) (es found : List Written) → IsWellFormedLog log → AreTold (records_in es) (bodies_of log) → Replays found [] other → (IsPrefix found es → IsPrefix other log) × (IsPrefix es found → IsPrefix log other)
 recovered log other es found good told replays =
     let none : List Record = [] in
     let whole : log_after none (bodies_of log) ≡ log = from_bodies none log good.follows good.sizes in
     let P : (l m : List Record) → Type 0 = λ l m. IsPrefix l m in (
-      λ front. subst (λ (l : List Record). P l log) (sym replays.log) (subst (λ (l : List Record). P (log_after none replays.bodies) l) whole (begins_log none found es replays.bodies (bodies_of log) replays.told told front)),
-      λ front. subst (λ (l : List Record). P log l) (sym replays.log) (subst (λ (l : List Record). P l (log_after none replays.bodies)) whole (begins_log none es found (bodies_of log) replays.bodies told replays.told front)),
+      λ front. subst (λ (l : List Record). P l log) (sym replays.log) (subst (λ (l : List Record). P (log_after none replays.bodies) l) whole (begins_log none (records_in found) (records_in es) replays.bodies (bodies_of log) replays.told told (records_begin found es front))),
+      λ front. subst (λ (l : List Record). P log l) (sym replays.log) (subst (λ (l : List Record). P l (log_after none replays.bodies)) whole (begins_log none (records_in es) (records_in found) (bodies_of log) replays.bodies told replays.told (records_begin es found front))),
     )

@@ -4,5 +4,9 @@ pub mod Contents
 pub mod Crashes
 pub mod Records
 pub mod RecordReading
+pub mod Kinds
+pub mod SlotEvents
+pub mod Slots
+pub mod Identity
 pub mod Recovery
 pub mod Keeping

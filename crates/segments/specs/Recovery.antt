@@ -1,9 +1,10 @@
 -- The log that the entries of a segment tell.
-use Rattle.std.specs.Prelude.{◌≡◌, ℕ, List, [], ◌∷◌, ◌++◌}
+use Rattle.std.specs.Prelude.{◌≡◌, ◌⊎◌, ℕ, true, List, [], ◌∷◌, ◌++◌}
 use Rattle.wal.specs.Records.{record_after}
 use Rattle.wal.specs.declared.record.Body.{Body}
 use Rattle.wal.specs.declared.record.Record.{Record}
 use Rattle.segments.specs.Entries.{Written}
+use Rattle.segments.specs.Kinds.{is_beside, records_in}
 use Rattle.segments.specs.Records.{SpellsRecord}
 
 -- a log after these records, one after the other
@@ -23,8 +24,12 @@ pub record ReplaysOne (bytes : List ℕ) (old new : List Record) : Type 0 where
   pub told : SpellsRecord bytes body
   pub log : new ≡ old ++ record_after old body ∷ []
 
+-- by an entry: nothing of what tells no record, and else that
+abbrev pub ReplaysEntry : List ℕ → List Record → List Record → Type 0
+ReplaysEntry bytes old new = ((is_beside bytes ≡ true) × (new ≡ old)) ⊎ ReplaysOne bytes old new
+
 -- and by the records of these entries
 pub record Replays (es : List Written) (old new : List Record) : Type 0 where
   pub bodies : List Body
-  pub told : AreTold es bodies
+  pub told : AreTold (records_in es) bodies
   pub log : new ≡ log_after old bodies

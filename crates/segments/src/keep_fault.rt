@@ -1,10 +1,12 @@
 //! Why records of a log aren't written into a segment.
 
 ghost use Rattle.std.specs.Prelude.{◌≡◌};
+ghost use Rattle.segments.specs.declared.fault.SegmentFault.TheVariants.{Memory};
 ghost use Rattle.segments.specs.declared.keep_fault.KeepFault.TheVariants.{Read, Segment};
 
 use crate::fault::SegmentFault;
 use shared_log::ReadFault;
+use std::alloc::AllocError;
 use thiserror::Error;
 
 #[derive(Clone, Copy, Debug, PartialEq, Eq, Error)]
@@ -12,6 +14,9 @@ pub enum KeepFault {
     /// The log can't be read.
     #[error("{0}")]
     Read(ReadFault),
+    /// The log has fewer records than the segment.
+    #[error("the log has fewer records than its file")]
+    Behind,
     /// What was read can't be written.
     #[error("{0}")]
     Segment(SegmentFault),
@@ -22,6 +27,14 @@ impl From<ReadFault> for KeepFault {
 
     fn from(fault: ReadFault) -> Self {
         KeepFault::Read(fault)
+    }
+}
+
+impl From<AllocError> for KeepFault {
+    ghost from_gives = { λ _ fault. fault ≡ Segment Memory };
+
+    fn from(_: AllocError) -> Self {
+        KeepFault::Segment(SegmentFault::Memory)
     }
 }
 

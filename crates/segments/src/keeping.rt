@@ -10,25 +10,30 @@ ghost use Rattle.segments.specs.Contents.{HasWritten};
 ghost use Rattle.segments.specs.Crashes.{Outlives};
 ghost use Rattle.segments.specs.Entries.{Written, entries, header};
 ghost use Rattle.segments.specs.Keeping.{HasLogged, Keeps};
+ghost use Rattle.segments.specs.SlotEvents.{spell_event};
 
 use crate::fault::SegmentFault;
 use crate::keep_fault::KeepFault;
 use crate::log_keeper::LogKeeper;
 use crate::records::writing::put_record;
 use crate::segment::Segment;
+use crate::slot_events::slot_event::SlotEvent;
+use crate::slot_events::writing::put_slot_event;
 use bytes::BytesMut;
-use shared_log::{LogName, LogReader, ReadFault};
+use shared_log::{LogName, LogReader};
 use sqlite_disk::Disk;
 use std::alloc::Global;
 use std::sync::Arc;
 use wal::Record;
 
 impl<D: Disk + Drop, L: LogName> LogKeeper<D, L> {
-    /// Goes on behind so many records of the log, which the segment has. `Read` where the reader sees fewer, or isn't let in.
+    /// Goes on behind the first `place` records of the log, which end at this position, and which the segment has: those at the front
+    /// may have been given back. `Read` where the reader isn't let in, or `Behind` where it sees fewer.
     pub fn resume(
         alloc: Global,
         segment: Segment<D>,
         mut reader: LogReader<L>,
+        end: u64,
         place: usize,
     ) -> Result<Self, KeepFault>
         ensures keeps { IfOk result
@@ -37,9 +42,11 @@ impl<D: Disk + Drop, L: LogName> LogKeeper<D, L> {
         ensures place { IfOk result (λ k. k.reader.place ≡ place) }
         ensures segment { IfOk result (λ k. k.segment ≡ segment) }
     {
-        reader.seek(0);
-        if reader.fetch(alloc, place)?.len() != place {
-            return Err(KeepFault::Read(ReadFault::Stale));
+        reader.resume(end, place)?;
+        let behind = place.saturating_sub(reader.place());
+        reader.fetch(alloc, behind)?;
+        if reader.place() != place {
+            return Err(KeepFault::Behind);
         }
         Ok(LogKeeper {
             segment,
@@ -77,6 +84,22 @@ impl<D: Disk + Drop, L: LogName> LogKeeper<D, L> {
             return Err(KeepFault::Segment(fault));
         }
         Ok(written)
+    }
+
+    /// Writes what became of a slot, beside the records. It isn't on the disk before a sync. It fails as `Segment::append` does.
+    pub fn write_event(&mut self, event: &SlotEvent) -> Result<(), SegmentFault>
+        ensures keeps { result ≢ Err SegmentFault.Disk →
+            Keeps D.seen self.old.segment self.old.reader →
+            Keeps D.seen self.new.segment self.new.reader }
+        ensures written { OnOk result
+            ((es : List Written) → HasWritten D.seen self.old.segment es →
+            HasWritten D.seen self.new.segment
+            (es ++ record { synced = self.old.segment.synced; body = spell_event event.now } ∷ [])) }
+        ensures reader { self.new.reader ≡ self.old.reader }
+    {
+        self.body.clear();
+        put_slot_event(event, &mut self.body)?;
+        self.segment.append(self.body.as_slice())
     }
 
     /// Puts all that was written on the disk, as `Segment::sync` does.

@@ -9,6 +9,7 @@ ghost use Rattle.segments.specs.Crashes.{Outlives};
 use crate::entry::Entry;
 use crate::fault::SegmentFault;
 use crate::finding::{Content, read_content};
+use crate::header::HEADER_LENGTH;
 use crate::segment::Segment;
 use bytes::BytesMut;
 use sqlite_disk::Disk;
@@ -43,6 +44,29 @@ impl<D: Disk + Drop> Segment<D> {
             payload: BytesMut::new(alloc),
         };
         Ok((segment, entries))
+    }
+}
+
+impl<D: Disk + Drop> Segment<D> {
+    /// Opens the segment of a file as `open` does, or begins one where the file is no longer than a header: then a crash has left it
+    /// before any entry was on the disk, or it is new. The key of its digests is the one that the file comes with.
+    pub fn open_or_create(alloc: Global, mut disk: D) -> Result<(Self, Vec<Entry>), SegmentFault>
+        requires usable { IsTrue (D.is_usable disk) }
+        requires rest { Only (D.seen disk) (D.may_leave disk) }
+        ensures written { IfOk result
+            (λ r. IsTrue (D.is_clean r.0.disk) → HasWritten D.seen r.0 r.1.items) }
+    {
+        let Ok(length) = disk.len() else {
+            return Err(SegmentFault::Disk);
+        };
+        if HEADER_LENGTH < length {
+            return Segment::open(alloc, disk);
+        }
+        let key = disk.key();
+        if disk.set_len(0).is_err() {
+            return Err(SegmentFault::Disk);
+        }
+        Ok((Segment::create(alloc, disk, key)?, Vec::new(alloc)))
     }
 }
 

@@ -64,6 +64,7 @@ backend_code backends.NoCopies = codes "0A000"
 backend_code backends.UnknownTable = codes "42P01"
 backend_code backends.UnknownColumn = codes "42703"
 backend_code backends.UnknownFilter = codes "42601"
+backend_code backends.NotKept = codes "58030"
 backend_code backends.Memory = codes "53200"
 
 abbrev pub backend_text : BackendFault → List ℕ
@@ -82,6 +83,7 @@ backend_text backends.NoCopies = codes "initial copies are not served: use WITH 
 backend_text backends.UnknownTable = codes "relation does not exist"
 backend_text backends.UnknownColumn = codes "column does not exist"
 backend_text backends.UnknownFilter = codes "invalid row filter"
+backend_text backends.NotKept = codes "could not write to the log's disk"
 backend_text backends.Memory = codes "out of memory"
 
 abbrev pub refusal_code : Refusal → List ℕ

@@ -29,6 +29,8 @@ pub enum BackendFault {
     UnknownColumn,
     /// The text is no row filter of the table.
     UnknownFilter,
+    /// The log is kept on a disk that takes nothing more.
+    NotKept,
     Memory,
 }
 
@@ -57,6 +59,7 @@ impl fmt::Display for BackendFault {
             BackendFault::UnknownTable => "L10: the table does not exist",
             BackendFault::UnknownColumn => "L11: the column does not exist",
             BackendFault::UnknownFilter => "L12: the text is no row filter of the table",
+            BackendFault::NotKept => "L14: the disk takes no more of the log",
             BackendFault::Memory => "out of memory",
         })
     }

@@ -120,6 +120,7 @@ impl Refusal {
             Refusal::Asked(BackendFault::UnknownTable) => ("42P01", "relation does not exist"),
             Refusal::Asked(BackendFault::UnknownColumn) => ("42703", "column does not exist"),
             Refusal::Asked(BackendFault::UnknownFilter) => ("42601", "invalid row filter"),
+            Refusal::Asked(BackendFault::NotKept) => ("58030", "could not write to the log's disk"),
             Refusal::Asked(BackendFault::Memory) => ("53200", "out of memory"),
         }
     }

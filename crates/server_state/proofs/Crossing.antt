@@ -20,6 +20,10 @@ use Rattle.connections.proofs.Crossing.{latch_sync, monitor_sync, sockets_sync}
 use Rattle.connections.proofs.authentication.users.Users.TheSendSync as users
 use Rattle.server_state.specs.contracts.server_state.ServerState as server_state
 use Rattle.server_state.specs.contracts.opening.system.SystemName as system
+use Rattle.server_state.specs.contracts.disk.durability.Durability as durability
+use Rattle.server_state.proofs.disk.disk_state.DiskState.TheSendSync as disk_state
+use Rattle.server_state.proofs.disk.keeper_place.KeeperPlace.TheSendSync as keeper_place
+use Rattle.server_state.proofs.disk.slot_journal.SlotJournal.TheSendSync as journal
 use Rattle.server_state.proofs.opening.settings.HubSettings.TheSendSync as settings
 use Rattle.server_state.proofs.streams.commit_notice.CommitNotice.TheSendSync as notice
 use Rattle.server_state.proofs.kept.log_size.LogSize.TheSendSync as log_size
@@ -49,6 +53,10 @@ publications_sync = search (publication_sync, items.the_sync, table.the_sync, se
 -- ---- the name of the system
 system_sync : IsSync system.the_row
 system_sync = declared_sync system.the_type (text.the_sync, tt)
+
+-- ---- how far the log is on its disk
+durability_sync : IsSync durability.the_row
+durability_sync = declared_sync durability.the_type (search (disk_state.the_send, heap.crosses, sendable) depth 20, (search (heap.crosses, sendable) depth 10, (search (heap.crosses, sendable) depth 10, (search (heap.crosses, sendable) depth 10, tt))))
 
 -- ---- at the names of a log and its slots
 module _ (L : RattleType) (s : slot_name.Ghosts L.Denot) (l : log_name.Ghosts L.Denot) where
@@ -86,7 +94,7 @@ module _ (L : RattleType) (s : slot_name.Ghosts L.Denot) (l : log_name.Ghosts L.
                                 search (heap.crosses, sendable) depth 10,
                                 (
                                   search (monitor_sync, heap.crosses, sendable) depth 10,
-                                  (sockets_sync, (search (heap.crosses, sendable) depth 10, (sockets_sync, (search (reader.the_send L l, heap.crosses, sendable) depth 10, (search (users.the_send, heap.crosses, sendable) depth 20, (search (heap.crosses, sendable) depth 10, (search (heap.crosses, sendable) depth 10, (search (log_size.the_send, heap.crosses, sendable) depth 10, tt)))))))),
+                                  (sockets_sync, (search (heap.crosses, sendable) depth 10, (sockets_sync, (search (reader.the_send L l, heap.crosses, sendable) depth 10, (search (users.the_send, heap.crosses, sendable) depth 20, (search (heap.crosses, sendable) depth 10, (search (heap.crosses, sendable) depth 10, (search (log_size.the_send, heap.crosses, sendable) depth 10, (search (durability_sync, heap.crosses, sendable) depth 10, (search (keeper_place.the_send, heap.crosses, sendable) depth 20, (search (journal.the_send, heap.crosses, sendable) depth 20, tt))))))))))),
                                 ),
                               ),
                             ),

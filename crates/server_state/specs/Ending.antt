@@ -3,7 +3,7 @@ use Rattle.std.specs.Prelude.{◌≡◌, ℕ, ℤ, true, false, Option, None, So
 use Rattle.txlog.specs.Publishing.{PublisherState, IsRefusalOrMemory, after_abort, after_begin, after_commit, end_refusal, log_end, receipt_of}
 use Rattle.txlog.specs.declared.answers.fault.SessionFault.{SessionFault}
 use Rattle.server_state.specs.declared.fault.EndFault.{EndFault}
-use Rattle.server_state.specs.declared.fault.EndFault.TheVariants.{Aborted, Unended}
+use Rattle.server_state.specs.declared.fault.EndFault.TheVariants.{Aborted, Disk, Unended}
 use Rattle.server_state.specs.Notices.{News, news_of_commit, news_of_end}
 
 -- the publisher, whose lock it holds; its xid; and why it can't commit any more, where a savepoint couldn't be ended
@@ -34,9 +34,11 @@ IsUndone xid old new (Some news) = (new ≡ after_abort xid old) × (news ≡ ne
 abbrev pub Ends : {A : Type 0} → ℕ → Option ℤ → PublisherState → PublisherState → Result A EndFault → Option News → Type 0
 Ends xid (Some time) old new (Ok x) news = (new ≡ after_commit xid time old) × (news ≡ Some (news_of_commit (receipt_of xid time old)))
 Ends xid (Some time) old new (Err (Aborted fault)) news = IsUndone xid old new news × IsSome news × IsRefusalOrMemory (end_refusal xid old) fault
+Ends xid (Some time) old new (Err (Disk fault)) news = true ≡ false
 Ends xid (Some time) old new (Err Unended) news = (new ≡ old) × (news ≡ None)
 Ends xid None old new (Ok x) news = IsUndone xid old new news × IsSome news
 Ends xid None old new (Err (Aborted fault)) news = true ≡ false
+Ends xid None old new (Err (Disk fault)) news = true ≡ false
 Ends xid None old new (Err Unended) news = (new ≡ old) × (news ≡ None)
 
 -- the error is made of a refusal, after which the transaction is aborted

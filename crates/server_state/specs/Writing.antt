@@ -7,5 +7,6 @@ use Rattle.server_state.specs.Notices.{News, news_of_commit, news_of_end}
 -- what streams are to be told of it, in a log that ends there
 abbrev pub news_left : {L : Type 0} → Left L → ℕ → Option News
 news_left lefts.Nothing end = None
-news_left lefts.End end = Some (news_of_end end)
+news_left lefts.Abort end = Some (news_of_end end)
+news_left lefts.Note end = Some (news_of_end end)
 news_left (lefts.Commit receipt) end = Some (news_of_commit receipt)

@@ -3,11 +3,12 @@
 //!
 //! `HubBuilder` is what a hub is opened with, and `ServerState` what is made of it. `hub` serves connections from that.
 //!
-//! Read `opening/hub_builder.rt`, `server_state.rt`, `sessions/transaction.rt`, `kept/keeping.rt`. Above, one contract is used: a
+//! Read `opening/hub_builder.rt`, `server_state.rt`, `sessions/transaction.rt`, `kept/keeping.rt`, `disk/keeping_on.rt`. Above, one contract is used: a
 //! `Transaction` writes exactly the records that its calls name, and Ok of its end says that they are committed (`ended`).
 #![tactic(auto)]
 
 mod arrivals;
+mod disk;
 mod fault;
 mod kept;
 mod opening;
@@ -17,7 +18,9 @@ mod sessions;
 mod streams;
 
 pub use arrivals::arriving::Admission;
-pub use fault::{EndFault, HubFault, ServeFault, SteerFault};
+pub use disk::disk_fault::DiskFault;
+pub use disk::identity::{OtherLog, judge_identity};
+pub use fault::{EndFault, HubFault, NoteFault, ServeFault, SteerFault};
 pub use kept::keeping::SlotWithSnapshot;
 pub use kept::pool::ReaderSeat;
 pub use opening::configured::ConfigurationFault;
@@ -38,4 +41,4 @@ pub use sessions::transaction::{Savepoint, Transaction};
 pub use sessions::writing::{Left, Writing};
 pub use streams::commit_notice::CommitNotice;
 pub use streams::spreading::Woken;
-pub use streams::status::{HubStatus, SlotStatus};
+pub use streams::status::{DiskStatus, HubStatus, SlotStatus};

@@ -2,6 +2,9 @@
 
 ghost use Rattle.std.specs.Prelude.{◌≡◌};
 
+use crate::disk::durability::Durability;
+use crate::disk::keeper_place::KeeperPlace;
+use crate::disk::slot_journal::SlotJournal;
 use crate::fault::HubFault;
 use crate::kept::log_size::LogSize;
 use crate::kept::log_times::LogTimes;
@@ -13,6 +16,7 @@ use crate::opening::settings::HubSettings;
 use crate::opening::shared::{Places, Shared};
 use crate::opening::system::SystemName;
 use crate::streams::commit_notice::CommitNotice;
+use crate::streams::spreading::Woken;
 use connections::{ConnectionMailbox, Latch, SlotMonitor, Sockets, Users};
 use publication::Publications;
 use server::{ConnectionTerms, Dialect};
@@ -62,10 +66,15 @@ pub struct ServerState<L: LogName + SlotName> {
     pub(crate) next_look: AtomicUsize,
     /// How long the log was when the publisher was let go last.
     pub(crate) log_size: Mutex<LogSize>,
+    /// Where it is kept on a disk: how far it is there, who is to put it there, and how slots stand there.
+    pub(crate) durability: Option<Durability>,
+    pub(crate) keeper_place: Mutex<Option<KeeperPlace<L>>>,
+    pub(crate) journal: Mutex<SlotJournal>,
 }
 
 impl<L: LogName + SlotName> ServerState<L> {
-    /// An empty log and no slots. `Memory` where memory is refused: then nothing is left of it.
+    /// An empty log and no slots; or a log that goes on by its entries, with the slots that it had. `Memory` where memory is refused,
+    /// `Recovery` and `Slots` where it doesn't go on: then nothing is left of it.
     pub fn open<R: Wait>(rt: &R, opened: HubBuilder) -> Result<Self, HubFault>
         requires log { opened.log.history.seen.book ≡ L.book }
         requires slots { opened.slots.first.table_id ≡ L.table }
@@ -78,9 +87,15 @@ impl<L: LogName + SlotName> ServerState<L> {
             slots,
             settings,
             users,
+            entries,
+            identity: _,
         } = opened;
-        match Shared::open(rt, alloc, log, slots, AtOnce::of(&settings)) {
-            Ok(shared) => Ok(ServerState::of(shared, alloc, publications, system, settings, users)),
+        match Shared::open(rt, alloc, log, slots, AtOnce::of(&settings), entries) {
+            Ok(shared) => {
+                let state = ServerState::of(shared, alloc, publications, system, settings, users);
+                state.begin_kept(rt);
+                Ok(state)
+            }
             Err(fault) => {
                 drop(publications);
                 drop(system);
@@ -88,6 +103,17 @@ impl<L: LogName + SlotName> ServerState<L> {
                 Err(fault)
             }
         }
+    }
+
+    /// Where the log goes on by what a disk has: slots stand as there, and streams read on up to its end.
+    fn begin_kept<R: Wait>(&self, rt: &R) {
+        let Some(durability) = &self.durability else {
+            return;
+        };
+        if let Ok(journal) = self.journal_now(rt) {
+            *self.journal.lock(rt) = journal;
+        }
+        Woken::all(rt, &self.latches, durability.look(rt).end);
     }
 
     /// What is made of these parts, which no connection has reached yet.
@@ -107,7 +133,12 @@ impl<L: LogName + SlotName> ServerState<L> {
             publisher,
             pool,
             counter,
+            kept,
         } = shared;
+        let durability = match &kept {
+            Some(place) => Some(Durability::of(place.count, place.end)),
+            None => None,
+        };
         let Places {
             table,
             names,
@@ -140,6 +171,9 @@ impl<L: LogName + SlotName> ServerState<L> {
             strangers: AtomicU32::new(0),
             next_look: AtomicUsize::new(0),
             log_size,
+            durability,
+            keeper_place: Mutex::new(kept),
+            journal: Mutex::new(SlotJournal::new(alloc)),
         }
     }
 
@@ -170,6 +204,9 @@ impl<L: LogName + SlotName> ServerState<L> {
             strangers: _,
             next_look: _,
             log_size: _,
+            durability: _,
+            keeper_place: _,
+            journal: _,
         } = self;
         publisher.into_inner().close(rt);
     }

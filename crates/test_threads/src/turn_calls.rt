@@ -14,7 +14,7 @@ use std::test::Fail;
 use std::thread::Threads;
 use txlog::Publisher;
 use wal::{Body, Record};
-use walsender::{Sender, TurnFault, turn};
+use walsender::{Sender, TURN_RECORDS, TurnFault, turn};
 
 /// What is sent of a transaction that inserts (1,'ab',7), commits with time 5 and is read with clock 9: the sample of
 /// docs/PROTOCOL.md.
@@ -124,7 +124,7 @@ fn see_block<L: LogName, R: Abort>(
     sample: &Sample,
 ) -> Result<(), Fail> {
     let mut bytes = Vec::new(alloc);
-    let turned = turn(alloc, sender, reader, 9, &mut bytes)?;
+    let turned = turn(alloc, sender, reader, TURN_RECORDS, 9, &mut bytes)?;
     let text = hex::encode(alloc, bytes.as_slice())?;
     assert!(rt; turned == 2 && text.as_str() == sample.block);
     Ok(())
@@ -212,7 +212,7 @@ fn turn_into<L: LogName, R: Abort>(
 ) -> Result<(), Fail> {
     let left = out.left;
     reader.seek(0);
-    let is_due = is_due(turn(alloc, sender, reader, 9, out), left);
+    let is_due = is_due(turn(alloc, sender, reader, TURN_RECORDS, 9, out), left);
     let is_front = is_front(alloc, out.taken.as_slice(), left)?;
     assert!(rt; is_due && is_front);
     Ok(())

@@ -4,13 +4,12 @@ use Rattle.wal.specs.declared.record.Record.{Record}
 use Rattle.wal.specs.Log.{follows}
 use Rattle.walsender.specs.declared.fault.SendFault.{SendFault}
 use Rattle.walsender.specs.declared.fault.SendFault.TheVariants as sends
-use Rattle.walsender.specs.declared.stream_turn.limits.TheConstants.{TURN_RECORDS}
 use Rattle.walsender.specs.Lent.{AreLastOf}
 use Rattle.walsender.specs.Sending.{SenderState, ReadAll, RanOut}
 
--- the records from the place on, as many as a turn fetches, of what its reader sees
-abbrev pub fetched_from : ℕ → List Record → List Record
-fetched_from place seen = take TURN_RECORDS (drop place seen)
+-- the records from the place on, so many at most, of what its reader sees
+abbrev pub fetched_from : ℕ → ℕ → List Record → List Record
+fetched_from most place seen = take most (drop place seen)
 
 -- The sender read these records, and then gave away these bytes: the front of what it held before, followed by what the
 -- records published.

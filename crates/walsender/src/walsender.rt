@@ -68,6 +68,13 @@ impl<L: LogName> Walsender<L> {
         Walsender { sender, reader }
     }
 
+    /// How many records of the log come before what is read next.
+    pub fn place(&self) -> usize
+        ensures { result ≡ self.now.reader.place }
+    {
+        self.reader.place()
+    }
+
     /// The end of the last record that was read.
     pub fn position(&self) -> u64
         ensures { result ≡ self.now.sender.position }
@@ -133,10 +140,11 @@ impl<L: LogName> Walsender<L> {
         Ok(self.sender.feed(records.as_slice(), clock))
     }
 
-    /// Reads on, and writes all that is held, as `crate::turn` does. It fails as that does (U1 to U5).
+    /// Reads on by so many records at most, and writes all that is held, as `crate::turn` does. It fails as that does (U1 to U5).
     pub fn turn<W: Write>(
         &mut self,
         alloc: Global,
+        most: usize,
         clock: i64,
         to: &mut W,
     ) -> Result<usize, TurnFault>
@@ -147,10 +155,10 @@ impl<L: LogName> Walsender<L> {
         ensures sees { has_fetched result ≡ true →
             IsPrefix (settled_records self.new.reader.told) (seen_of self.new.reader) }
         ensures count { IfOk result
-            (λ n. n ≡ length (fetched_from self.old.reader.place (seen_of self.new.reader))) }
+            (λ n. n ≡ length (fetched_from most self.old.reader.place (seen_of self.new.reader))) }
         ensures reads { OnOk result
             (ReadsAndWrites clock self.old.sender self.new.sender
-            (fetched_from self.old.reader.place (seen_of self.new.reader)) (W.contents to.old)
+            (fetched_from most self.old.reader.place (seen_of self.new.reader)) (W.contents to.old)
             (W.contents to.new)) }
         ensures serves { (given : List ℕ) × GoesOn given self.old self.new
             × Appends (W.contents to.old) (W.contents to.new) given }
@@ -161,7 +169,7 @@ impl<L: LogName> Walsender<L> {
             0 < length self.new.sender.held }
         ensures silent { has_written result ≡ false → to.new ≡ to.old }
     {
-        turn(alloc, &mut self.sender, &mut self.reader, clock, to)
+        turn(alloc, &mut self.sender, &mut self.reader, most, clock, to)
     }
 
     /// Holds a keepalive with the position up to which was read, after all that is held. `Failed` (G3) where the sender has

@@ -5,6 +5,7 @@ ghost use Rattle.std.specs.Prelude.{◌≤◌};
 use crate::slot::flush_lag::moment;
 use crate::slot::slot_keeping::SlotKeeping;
 use crate::slot::slot_snapshot::{SlotSnapshot, is_short};
+use crate::slot::slot_standing::SlotStanding;
 use crate::slot::stream_control::StreamCommand;
 use crate::socket::commit_counter::CommitCounter;
 use pqformat::Text;
@@ -35,9 +36,17 @@ impl SlotMonitor {
     /// A slot was made here, confirmed at this position.
     pub fn open<R: Wait>(&self, rt: &R, name: Option<Text>, confirmed: u64) {
         let mut known = self.known.lock(rt);
-        let before = mem::replace(&mut *known, SlotSnapshot::opened(name, confirmed));
+        let number = known.number.saturating_add(1);
+        let before = mem::replace(&mut *known, SlotSnapshot::opened(name, confirmed, number));
         drop(known);
         drop(before);
+    }
+
+    /// Streams of the slot may begin up to there: some have come so far that were of another run of the server.
+    pub fn reach<R: Wait>(&self, rt: &R, position: u64) {
+        let mut known = self.known.lock(rt);
+        known.reached = known.reached.max(position);
+        drop(known);
     }
 
     /// The slot was dropped: nothing is kept for it, and nobody waits for it any more.
@@ -200,6 +209,16 @@ impl SlotMonitor {
         let latch = known.latch;
         drop(known);
         latch
+    }
+
+    /// What of the slot here outlives the server, also once that ends. None: there is none. `AllocError` where memory for it is
+    /// refused.
+    pub fn standing<R: Wait>(
+        &self,
+        rt: &R,
+        alloc: Global,
+    ) -> Result<Option<SlotStanding>, AllocError> {
+        self.known.lock(rt).standing(alloc)
     }
 
     /// Whether the slot that is here was given up.

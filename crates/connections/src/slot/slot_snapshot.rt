@@ -2,6 +2,7 @@
 
 use crate::slot::flush_lag::FlushLag;
 use crate::slot::slot_keeping::SlotKeeping;
+use crate::slot::slot_standing::SlotStanding;
 use crate::slot::stream_control::StreamControl;
 use crate::socket::commit_counter::CommitCounter;
 use pqformat::Text;
@@ -40,6 +41,8 @@ pub struct SlotSnapshot {
     /// A tenth of its stream's chunks isn't free.
     pub(crate) is_short: bool,
     pub keeping: SlotKeeping,
+    /// How many slots were at this place, this one included.
+    pub(crate) number: u64,
 }
 
 /// Whether a stream counts as short of chunks: from a tenth that is free on, until a half is.
@@ -68,12 +71,14 @@ impl SlotSnapshot {
             was_full: false,
             is_short: false,
             keeping: SlotKeeping::Nothing,
+            number: 0,
         }
     }
 
-    /// Of a slot that was made.
-    pub(crate) fn opened(name: Option<Text>, confirmed: u64) -> Self {
+    /// Of a slot that was made, the one of this number at its place.
+    pub(crate) fn opened(name: Option<Text>, confirmed: u64, number: u64) -> Self {
         let mut known = SlotSnapshot::nothing();
+        known.number = number;
         known.is_open = true;
         known.name = name;
         known.confirmed = confirmed;
@@ -109,6 +114,21 @@ impl SlotSnapshot {
             was_full: self.was_full,
             is_short: self.is_short,
             keeping: self.keeping,
+            number: self.number,
+        }))
+    }
+
+    /// What of it outlives its server. None: no slot is there. `AllocError` where memory for it is refused.
+    pub(crate) fn standing(&self, alloc: Global) -> Result<Option<SlotStanding>, AllocError> {
+        let name = match (&self.name, self.keeping) {
+            (_, SlotKeeping::Nothing) | (None, _) => return Ok(None),
+            (Some(name), _) => Text::copy_of(alloc, name.as_str())?,
+        };
+        Ok(Some(SlotStanding {
+            number: self.number,
+            name,
+            confirmed: self.confirmed,
+            is_lost: self.keeping == SlotKeeping::Lost,
         }))
     }
 }

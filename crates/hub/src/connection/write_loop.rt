@@ -154,6 +154,7 @@ fn write_begun<L: LogName + SlotName, R: Wait + Clock, G: ServerObserver>(
     inform(rt, server_state, stream);
     // It may have been held for long since the work was taken.
     work.clock = write.mailbox.clock(rt);
+    work.readable = server_state.readable();
     let mut metered = MeteredWriter {
         rt,
         monitor,

@@ -35,6 +35,7 @@ impl<'h, L: LogName + SlotName, R: Wait + Clock, G: ServerObserver> WorkBackend<
             await_stream(write.rt, write.server_state, write.mailbox, monitor, stream);
         }
         let mut work = write.mailbox.take(write.rt);
+        work.readable = write.server_state.readable();
         steer(write, monitor, &mut work);
         work
     }

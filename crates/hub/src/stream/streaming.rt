@@ -1,6 +1,6 @@
 //! A stream that is written, with all that goes back at its end.
 
-ghost use Rattle.std.specs.Prelude.{◌≡◌, ◌⊎◌, ◌++◌, [], ℕ, List, false, length, max, min, OnErr, OnOk};
+ghost use Rattle.std.specs.Prelude.{◌≡◌, ◌⊎◌, ◌-◌, ◌++◌, [], ℕ, List, false, length, max, min, OnErr, OnOk};
 ghost use Rattle.std.specs.Io.KnownBytes.{Appends};
 ghost use Rattle.slots.specs.Rule.{slot_step, with_step};
 ghost use Rattle.slots.specs.Seats.{DidAt};
@@ -27,10 +27,17 @@ use slots::{SlotName, SlotTable};
 use std::alloc::Global;
 use std::io;
 use std::io::Write;
-use walsender::{SendFault, TurnFault, Walsender};
+use walsender::{SendFault, TURN_RECORDS, TurnFault, Walsender};
 
 /// How many keepalives are held at once, of those that answer statuses.
 const MOST_KEEPALIVES: u32 = 256;
+
+/// How many records a turn for this work reads at most, of a stream that has come so far.
+fn most_read(work: &Work, place: usize) -> usize
+    ensures { result ≡ min TURN_RECORDS (work.now.readable - place) }
+{
+    TURN_RECORDS.min(work.readable.saturating_sub(place))
+}
 
 /// A walsender, and the slot that it confirms. It isn't `Drop`: `end` ends it.
 pub(crate) struct Stream<L: LogName + SlotName> {
@@ -120,7 +127,7 @@ impl<L: LogName + SlotName> Stream<L> {
     }
 
     /// Does what its inbox asks: confirms what was flushed, holds a keepalive for each status that asked and one that asks a
-    /// silent client, reads on, and writes all that is held. Where the connection is over, it only confirms. Faults as of
+    /// silent client, reads on as far as its work lets it, and writes all that is held. Where the connection is over, it only confirms. Faults as of
     /// `Walsender::turn` (U1 to U5).
     pub fn go_on<W: Write>(
         &mut self,
@@ -143,9 +150,10 @@ impl<L: LogName + SlotName> Stream<L> {
             return Ok(());
         }
         let clock = work.clock;
+        let most = most_read(work, self.walsender.place());
         self.answer_statuses(work.asked, clock, to)?;
         self.ask_if(work.is_silent, clock)?;
-        self.walsender.turn(self.alloc, clock, to)?;
+        self.walsender.turn(self.alloc, most, clock, to)?;
         self.tell_position(clock, to)
     }
 

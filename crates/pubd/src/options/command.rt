@@ -8,7 +8,7 @@ use command_line::{CommandLine, Word, WordForm, WordsFault};
 use std::alloc::{AllocError, Global};
 
 /// The words: those that may be left out, those that have to be there, and scripts.
-const WORDS: [Word<'static>; 20] = [
+const WORDS: [Word<'static>; 23] = [
     Word {
         name: "await-streams",
         form: WordForm::Option("N"),
@@ -75,6 +75,16 @@ const WORDS: [Word<'static>; 20] = [
         help: "Let only those connect that have a line in FILE, as --password-of prints it, and prove that they know its password",
     },
     Word {
+        name: "data",
+        form: WordForm::Option("FOLDER"),
+        help: "Keep the log and its slots in FOLDER, which is made if it is missing, and go on by what it has; without it a server keeps nothing",
+    },
+    Word {
+        name: "synchronous-commit",
+        form: WordForm::Option("WORD"),
+        help: "With --data: on, unless it is given, answers a commit once it is on the disk; off answers at once, and a crash may lose the last ones",
+    },
+    Word {
         name: "keep-serving",
         form: WordForm::Flag,
         help: "Serve on where the standard input ends, with forever and -",
@@ -88,6 +98,11 @@ const WORDS: [Word<'static>; 20] = [
         name: "password-of",
         form: WordForm::Alone("NAME"),
         help: "Read a password from the standard input, print what PostgreSQL keeps of it for the user NAME, and serve nothing",
+    },
+    Word {
+        name: "inspect",
+        form: WordForm::Alone("FOLDER"),
+        help: "Print what the log in FOLDER has, a line for each record and each change of a slot, and serve nothing",
     },
     Word {
         name: "CONFIG",
@@ -136,7 +151,7 @@ fn scripts_in<'a>(alloc: Global, matches: &ArgMatches<'a>) -> Result<Vec<&'a str
     Ok(scripts)
 }
 
-/// The first three are required, so they are there, but where a password is asked for.
+/// The first three are required, so they are there, but where a password or a folder is asked for.
 fn words_in<'a>(alloc: Global, matches: &ArgMatches<'a>) -> Result<Words<'a>, AllocError> {
     Ok(Words {
         config: matches.get_str("CONFIG").unwrap_or(""),
@@ -158,6 +173,9 @@ fn words_in<'a>(alloc: Global, matches: &ArgMatches<'a>) -> Result<Words<'a>, Al
         ends_on_sigterm: matches.get_flag("end-on-sigterm"),
         passwords: matches.get_str("passwords"),
         password_of: matches.get_str("password-of"),
+        data: matches.get_str("data"),
+        synchronous_commit: matches.get_str("synchronous-commit"),
+        inspected: matches.get_str("inspect"),
         scripts: scripts_in(alloc, matches)?,
     })
 }

@@ -37,6 +37,7 @@ pub enum NumberFault {
     SlotKeep,
     WorkMemory,
     Level,
+    SynchronousCommit,
 }
 
 impl NumberFault {
@@ -61,6 +62,7 @@ impl NumberFault {
                 "SIZE of --logical-decoding-work-mem is a number, and kB, MB, GB or TB after it, from 64kB to 2147483647kB"
             }
             NumberFault::Level => "LEVEL of --log-min-messages is info, warning or error",
+            NumberFault::SynchronousCommit => "WORD of --synchronous-commit is on or off",
         }
     }
 }

@@ -41,6 +41,11 @@ pub struct Words<'a> {
     pub passwords: Option<&'a str>,
     /// Of whom a password is read, and nothing is served.
     pub password_of: Option<&'a str>,
+    /// The folder in which the log is kept.
+    pub data: Option<&'a str>,
+    pub(crate) synchronous_commit: Option<&'a str>,
+    /// Which folder is printed, and nothing is served.
+    pub inspected: Option<&'a str>,
     pub scripts: Vec<&'a str>,
 }
 
@@ -68,6 +73,7 @@ pub struct Numbers {
     /// Whether the end of the standard input is that of the server, where lines come from there.
     pub ends_with_input: bool,
     pub ends_on_sigterm: bool,
+    pub synchronous_commit: bool,
 }
 
 impl<'a> Words<'a> {
@@ -95,6 +101,7 @@ impl<'a> Words<'a> {
             allows_start_ahead: self.allows_start_ahead,
             ends_with_input: self.connections == FOREVER && !self.keeps_serving,
             ends_on_sigterm: self.ends_on_sigterm,
+            synchronous_commit: self.synchronous_commit()?,
         })
     }
 
@@ -187,6 +194,14 @@ impl<'a> Words<'a> {
         match count_of(text) {
             Some(count) if 1 <= count => Ok(Some(count as usize)),
             _ => Err(NumberFault::SlotKeep),
+        }
+    }
+
+    fn synchronous_commit(&self) -> Result<bool, NumberFault> {
+        match self.synchronous_commit {
+            None | Some("on") => Ok(true),
+            Some("off") => Ok(false),
+            Some(_) => Err(NumberFault::SynchronousCommit),
         }
     }
 

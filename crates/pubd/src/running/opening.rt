@@ -38,4 +38,5 @@ fn limit(settings: &mut HubSettings, numbers: &Numbers) {
     settings.max_slot_keep = numbers.max_slot_keep;
     settings.answers_postgresql = numbers.answers_postgresql;
     settings.allows_start_ahead = numbers.allows_start_ahead;
+    settings.synchronous_commit = numbers.synchronous_commit;
 }

@@ -11,8 +11,10 @@ use crate::standard_error::level::Level;
 use crate::standard_error::reports::Reports;
 use crate::status::status_page::serve_status;
 use hub::{Hub, HubBuilder, serve};
+use segments::Segment;
 use shared_log::LogName;
 use slots::SlotName;
+use sqlite_std_file::File;
 use std::alloc::AllocError;
 use std::io::Print;
 use std::net::TcpListener;
@@ -45,6 +47,7 @@ pub(crate) struct ServerParts<'a> {
 pub(crate) fn served<L, R, O>(
     rt: &R,
     opened: HubBuilder,
+    segment: Option<Segment<File>>,
     service: &ServerParts,
     told: &ErrorLog,
     output: &O,
@@ -56,10 +59,60 @@ where
     requires log { opened.log.history.seen.book ≡ L.book }
     requires slots { opened.slots.first.table_id ≡ L.table }
 {
-    let hub = Hub::<L>::open(rt, opened).map_err(Fault::Hub)?;
-    let done = serve_beside_all(rt, &hub, service, told, output);
+    let hub = match Hub::<L>::open(rt, opened) {
+        Ok(hub) => hub,
+        Err(fault) => {
+            drop(segment);
+            return Err(Fault::Hub(fault));
+        }
+    };
+    let done = match segment {
+        Some(segment) => serve_kept(rt, &hub, segment, service, told, output),
+        None => serve_beside_all(rt, &hub, service, told, output),
+    };
     hub.close(rt);
     done
+}
+
+/// Serves, and keeps the log in this segment beside that, on a thread of its own.
+fn serve_kept<L, R, O>(
+    rt: &R,
+    hub: &Hub<L>,
+    segment: Segment<File>,
+    service: &ServerParts,
+    told: &ErrorLog,
+    output: &O,
+) -> Result<(), Fault>
+where
+    L: LogName + SlotName + Send + Sync,
+    R: Threads + Wait + Clock + RandomSource + Sync,
+    O: Print,
+{
+    thread::scope(thread::scope_env(), rt, |scope| {
+        let kept = scope.spawn(move || keep(rt, hub, segment, told));
+        if !was_spawned(kept) {
+            return Err(Fault::Memory(AllocError));
+        }
+        let done = serve_beside_all(rt, hub, service, told, output);
+        hub.end_keeping(rt);
+        done
+    })
+}
+
+/// Keeps the log until the server has ended. Where the disk fails, it is told at once.
+fn keep<L, R>(rt: &R, hub: &Hub<L>, segment: Segment<File>, told: &ErrorLog)
+where
+    L: LogName + SlotName,
+    R: Wait + Clock,
+{
+    if let Err(fault) = hub.keep(rt, segment) {
+        told.line(
+            rt,
+            format_args!(
+                "pubd: commits are refused from now on, since the log's disk has failed: {fault}"
+            ),
+        );
+    }
 }
 
 /// Serves, with its scripts and its page beside that on threads of their own. Where lines come from the standard input, they are

@@ -5,7 +5,7 @@ use super::refusal::ScriptRefusal;
 use super::step::Steering;
 use crate::running::ending::ListenerHandles;
 use copyboth::clock_now;
-use hub::{Hub, Left, SteerFault};
+use hub::{DiskFault, Hub, Left, SteerFault};
 use pqformat::Text;
 use schedule::{Event, SessionAnswer, SessionStep, Sessions, WorldFault};
 use shared_log::LogName;
@@ -71,11 +71,45 @@ pub(crate) fn do_event<'h, L: LogName + SlotName, R: Wait + Clock>(
     sessions: &mut Sessions,
     event: &Event,
 ) -> Result<Done, AllocError> {
+    if ends_something(event) && hub.disk_fault(rt).is_some() {
+        abort_of(rt, hub, sessions, event)?;
+        return Ok(Done::Refused(ScriptRefusal::Disk(DiskFault::Failed)));
+    }
     let mut writing = hub.write(rt);
     let line = sessions.line(rt, &mut writing.publisher, event);
     let (done, left) = done_by(event, line, writing.publisher.kept());
-    writing.end(left);
-    done
+    match (writing.end(left), done) {
+        (Some(fault), Ok(Done::Commit { .. } | Done::Line)) => {
+            Ok(Done::Refused(ScriptRefusal::Disk(fault)))
+        }
+        (_, done) => done,
+    }
+}
+
+/// A commit that the disk can't take aborts its transaction.
+fn abort_of<'h, L: LogName + SlotName, R: Wait + Clock>(
+    rt: &'h R,
+    hub: &'h Hub<L>,
+    sessions: &mut Sessions,
+    event: &Event,
+) -> Result<(), AllocError> {
+    let Event::Session(name, _) = event else {
+        return Ok(());
+    };
+    let abort = Event::Session(name.copy(hub.alloc())?, SessionStep::Abort);
+    let mut writing = hub.write(rt);
+    let line = sessions.line(rt, &mut writing.publisher, &abort);
+    let (_, left) = done_by(&abort, line, writing.publisher.kept());
+    let _ = writing.end(left);
+    Ok(())
+}
+
+/// Whether it is a commit, or a message outside of transactions.
+fn ends_something(event: &Event) -> bool {
+    matches!(
+        event,
+        Event::Note(_, _) | Event::Session(_, SessionStep::Commit(_))
+    )
 }
 
 /// What a session's line comes to, in a log of which so many records are kept, and what it leaves for streams.
@@ -104,7 +138,8 @@ fn done_by<L: LogName>(
 /// A note or an abort that was done leaves where the log ends; other lines leave nothing.
 fn left_by<L: LogName>(event: &Event) -> Left<L> {
     match event {
-        Event::Note(_, _) | Event::Session(_, SessionStep::Abort) => Left::End,
+        Event::Note(_, _) => Left::Note,
+        Event::Session(_, SessionStep::Abort) => Left::Abort,
         _ => Left::Nothing,
     }
 }

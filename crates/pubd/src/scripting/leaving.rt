@@ -15,5 +15,5 @@ where
 {
     let writing = hub.write(rt);
     sessions.leave_all(&writing.publisher);
-    writing.end(Left::Nothing);
+    let _ = writing.end(Left::Nothing);
 }

@@ -1,12 +1,13 @@
 //! Why lines are refused.
 
 use crate::options::user_file::UserFault;
+use hub::DiskFault;
 use schedule::BadLine;
 use std::fmt;
 use thiserror::Error;
 use txlog::SessionFault;
 
-/// Why a line was refused, which has changed nothing. It is told by its code and words.
+/// Why a line was refused, which has changed nothing, but for a disk that fails after it. It is told by its code and words.
 #[derive(Clone, Copy, Debug)]
 pub enum ScriptRefusal {
     /// It is no line.
@@ -23,6 +24,8 @@ pub enum ScriptRefusal {
     NoPasswords,
     /// The file of passwords is of no use.
     Users(UserFault),
+    /// The log's disk has failed: before it, and then it has changed nothing, or after it.
+    Disk(DiskFault),
 }
 
 /// Why nobody waits any more for what a line awaits.
@@ -51,6 +54,8 @@ impl fmt::Display for ScriptRefusal {
             ScriptRefusal::Unmet(why) => write!(f, "A1 {why}"),
             ScriptRefusal::NoPasswords => f.write_str("A2 no passwords are asked"),
             ScriptRefusal::Users(fault) => write!(f, "A2 {fault}"),
+            ScriptRefusal::Disk(DiskFault::Failed) => write!(f, "D1 {}", DiskFault::Failed),
+            ScriptRefusal::Disk(DiskFault::Unsynced) => write!(f, "D2 {}", DiskFault::Unsynced),
         }
     }
 }

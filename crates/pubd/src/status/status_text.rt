@@ -1,6 +1,6 @@
 //! What runs, in Prometheus' text exposition format.
 
-use hub::{HubStatus, SlotStatus};
+use hub::{DiskStatus, HubStatus, SlotStatus};
 use std::io::Write;
 use std::{fmt, io};
 
@@ -29,13 +29,42 @@ const SERVER_FAMILIES: [(&str, &str, &str); 5] = [
     ),
 ];
 
+/// What is told of a log that is kept on a disk.
+const DISK_FAMILIES: [(&str, &str, &str); 2] = [
+    (
+        "pubd_disk_end_position",
+        "gauge",
+        "The position up to which the log is on its disk",
+    ),
+    (
+        "pubd_disk_failed",
+        "gauge",
+        "1 where the log's disk has failed, and commits are refused",
+    ),
+];
+
 /// A line for each value, and two before each family. The writer's error.
 pub fn write_status<W: Write>(status: &HubStatus, to: &mut W) -> io::Result<()> {
     for (name, kind, help) in &SERVER_FAMILIES {
         family(to, name, kind, help)?;
         writeln!(to, "{name} {}", server_value_of(name, status))?;
     }
+    if let Some(disk) = status.disk {
+        write_disk(disk, to)?;
+    }
     write_slots(status, to)
+}
+
+fn write_disk<W: Write>(disk: DiskStatus, to: &mut W) -> io::Result<()> {
+    for (name, kind, help) in &DISK_FAMILIES {
+        family(to, name, kind, help)?;
+        let value = match *name {
+            "pubd_disk_failed" => u64::from(disk.has_failed),
+            _ => disk.end,
+        };
+        writeln!(to, "{name} {value}")?;
+    }
+    Ok(())
 }
 
 fn server_value_of(family: &str, status: &HubStatus) -> u64 {

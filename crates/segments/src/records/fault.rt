@@ -10,7 +10,7 @@ use thiserror::Error;
 pub enum RecordFault {
     #[error("out of memory")]
     Memory,
-    /// It isn't what a record is told by.
+    /// It isn't what a record is told by, or what else stands in a log's file.
     #[error("no record is told")]
     NoRecord,
 }

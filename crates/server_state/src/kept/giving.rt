@@ -17,8 +17,9 @@ impl<L: LogName + SlotName> ServerState<L> {
     /// Gives the records back that no slot, no stream and no transaction in progress needs, where many have come since that was done
     /// last, or the log has no room. A slot that holds more than it may is given up before.
     ///
-    /// What a stream needs its slot does, since its reader stands nowhere before where it would begin at the slot's position. Answers
-    /// the position for which the log is kept, if it was looked.
+    /// What a stream needs its slot does, since its reader stands nowhere before where it would begin at the slot's position. Of a log
+    /// that is kept on a disk nothing leaves it that isn't there, nor that it needs by what the disk has of slots. Answers the position
+    /// for which the log is kept, if it was looked.
     pub fn make_room<R: Wait>(&self, rt: &R, publisher: &mut Publisher<L>) -> Option<u64>
         ensures gives { IfSome result (λ least. GivesBack least publisher.old publisher.new) }
         ensures none { result ≡ None → publisher.new ≡ publisher.old }
@@ -26,6 +27,10 @@ impl<L: LogName + SlotName> ServerState<L> {
         let count = publisher.count();
         if 0 < publisher.room() && count < self.next_look.load(Ordering::SeqCst) {
             return None;
+        }
+        if publisher.room() < self.settings.capacity / 2 {
+            // What the disk has of slots may lie behind what their clients have confirmed.
+            let _ = self.await_slots(rt);
         }
         let mut counter = self.counter.lock(rt);
         self.give_up_slots(rt, &mut *counter, count);
@@ -43,11 +48,12 @@ impl<L: LogName + SlotName> ServerState<L> {
         self.settings.capacity.min(most) / PARTS
     }
 
-    /// The least position that a slot is confirmed at, or where the log ends.
+    /// The least position that a slot is confirmed at, or that the disk has of one, or where the log ends there.
     fn least_confirmed<R: Wait>(&self, rt: &R, end: u64) -> u64
         ensures { result ≤ end }
     {
-        let mut least = end;
+        let end = self.end_on_disk(rt, end);
+        let mut least = self.journal.lock(rt).least_confirmed(end);
         for monitor in &self.monitors {
             if let Some(confirmed) = monitor.kept_from(rt) {
                 least = least.min(confirmed);

@@ -30,7 +30,8 @@ pub struct SlotWithSnapshot {
 impl<L: LogName + SlotName> ServerState<L> {
     /// Makes a slot of this user, if any, at the log's end, and answers that position. `SlotExists` (L3) where the name is there,
     /// `NoSlotPlace` (L4) where there are as many slots as may be, or `Memory`. No transaction in progress is waited for: what it
-    /// commits later is streamed from there on.
+    /// commits later is streamed from there on. Where the log is kept on a disk it is answered once the slot is there too; `NotKept`
+    /// (L14) where it doesn't come there.
     // The counter is locked until the slot's monitor says what is kept for it, so that nothing of that is given back meanwhile.
     pub fn create_slot<R: Wait>(
         &self,
@@ -38,11 +39,14 @@ impl<L: LogName + SlotName> ServerState<L> {
         name: &str,
         user: Option<&str>,
     ) -> Result<u64, BackendFault> {
+        self.judge_disk(rt)?;
         let owner = self.owner(user)?;
         let counter = self.counter.lock(rt);
         let created = self.create_slot_at(rt, name, owner, self.end_of_log(rt));
         drop(counter);
-        created
+        let position = created?;
+        self.await_slots(rt)?;
+        Ok(position)
     }
 
     /// The same with a snapshot of all that committed below that position, which is made in the same step, and its number. The caller
@@ -53,11 +57,17 @@ impl<L: LogName + SlotName> ServerState<L> {
         name: &str,
         user: Option<&str>,
     ) -> Result<SlotWithSnapshot, BackendFault> {
+        self.judge_disk(rt)?;
         let owner = self.owner(user)?;
         let mut publisher = self.publisher.lock(rt);
         let created = self.create_over_snapshot(rt, &mut *publisher, name, owner);
         let _ = MutexGuard::unlock(publisher);
-        created
+        let made = created?;
+        if let Err(fault) = self.await_slots(rt) {
+            self.release_snapshot(rt, made.snapshot);
+            return Err(fault);
+        }
+        Ok(made)
     }
 
     fn create_over_snapshot<R: Wait>(
@@ -104,29 +114,32 @@ impl<L: LogName + SlotName> ServerState<L> {
         owner: Option<Text>,
         end: u64,
     ) -> Result<u64, BackendFault> {
+        let known = copied(self.alloc, name)?;
         let mut names = self.names.lock(rt);
         names.create(&self.slots, name, owner, end)?;
         if let Some(monitor) = self.monitor_at(names.place_of(name)) {
-            monitor.open(rt, Text::copy_of(self.alloc, name).ok(), end);
+            monitor.open(rt, Some(known), end);
         }
         drop(names);
         Ok(end)
     }
 
-    /// Drops a slot. Refused in this order: `NotOwner` (A3) where it is another user's, `SlotMissing` (L1), `SlotInUse` (L2).
+    /// Drops a slot. Refused in this order: `NotOwner` (A3) where it is another user's, `SlotMissing` (L1), `SlotInUse` (L2). Where the
+    /// log is kept on a disk, `NotKept` (L14) where that may go on to have it.
     pub fn drop_slot<R: Wait>(
         &self,
         rt: &R,
         name: &str,
         user: Option<&str>,
     ) -> Result<(), BackendFault> {
+        self.judge_disk(rt)?;
         let mut names = self.names.lock(rt);
         let place = names.drop_slot(&self.slots, name, user)?;
         if let Some(monitor) = self.monitor_at(Some(place)) {
             monitor.remove(rt);
         }
         drop(names);
-        Ok(())
+        self.await_slots(rt)
     }
 
     /// Drops a slot once no stream has it. Where the client that asks for that, by this socket, has gone before, or the server ends,

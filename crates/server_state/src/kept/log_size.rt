@@ -35,8 +35,10 @@ impl<L: LogName + SlotName> ServerState<L> {
         MutexGuard::unlock(publisher);
     }
 
-    /// Where the log ends, but for what a transaction in progress by `Hub::transaction` has written: that one isn't waited for.
+    /// Where the log ends, but for what a transaction in progress by `Hub::transaction` has written: that one isn't waited for. Of one
+    /// that is kept on a disk, where it ends there.
     pub fn end_of_log<R: Wait>(&self, rt: &R) -> u64 {
-        self.log_size.lock(rt).end
+        let end = self.log_size.lock(rt).end;
+        self.end_on_disk(rt, end)
     }
 }

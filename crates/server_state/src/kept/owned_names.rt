@@ -12,7 +12,7 @@ use connections::Names;
 use pqformat::Text;
 use server::BackendFault;
 use slots::{SlotName, SlotTable};
-use std::alloc::Global;
+use std::alloc::{AllocError, Global};
 
 /// The slots by name, with the seat that makes and drops them, and the users that made them.
 #[derive(Drop)]
@@ -46,6 +46,14 @@ impl<L: SlotName> OwnedNames<L> {
             (option_map (λ user. user.now) user.entry) }
     {
         self.owners.may_use(name, user)
+    }
+
+    /// A copy of the name of the user that made the slot of this name, where it had to prove its password. `AllocError` where memory
+    /// for it is refused.
+    pub fn owner_of(&self, alloc: Global, name: &str) -> Result<Option<Text>, AllocError>
+        ensures { IfOk result (λ owner. owner ≡ owner_of self.now.owners name.now) }
+    {
+        self.owners.owner_of(alloc, name)
     }
 
     /// Makes a slot of a new name at this position, which is this user's, or anyone's. A slot that is there stays whose it is:

@@ -1,6 +1,6 @@
 //! The users that made slots.
 
-ghost use Rattle.std.specs.Prelude.{◌≡◌, ℕ, List, None, Some, OnErr, OnOk, option_map};
+ghost use Rattle.std.specs.Prelude.{◌≡◌, ℕ, List, IfOk, None, Some, OnErr, OnOk, option_map};
 ghost use Rattle.server_state.specs.Owners.{ChangesOwner, HaveSameOwners, may_use, owner_of};
 
 use pqformat::Text;
@@ -33,6 +33,16 @@ impl Owners {
             (Some(owner), Some(user)) => owner.as_str() == user,
             (Some(_), None) => false,
             (None, _) => true,
+        }
+    }
+
+    /// A copy of the name of the user that made the slot of this name. `AllocError` where memory for it is refused.
+    pub fn owner_of(&self, alloc: Global, name: &str) -> Result<Option<Text>, AllocError>
+        ensures { IfOk result (λ owner. owner ≡ owner_of self.now name.now) }
+    {
+        match self.users.get(name) {
+            Some(owner) => Ok(Some(owner.copy(alloc)?)),
+            None => Ok(None),
         }
     }
 

@@ -3,6 +3,7 @@
 ghost use Rattle.std.specs.Prelude.{◌≡◌, ◌≤◌};
 ghost use Rattle.txlog.specs.declared.limits.TheConstants.{MAX_RECORDS};
 
+use crate::disk::identity::identity_of;
 use crate::fault::HubFault;
 use crate::opening::settings::HubSettings;
 use crate::opening::system::SystemName;
@@ -10,6 +11,7 @@ use catalog::Catalog;
 use connections::Users;
 use pqformat::Text;
 use publication::Publications;
+use segments::Entry;
 use slots::OpenedSlots;
 use std::alloc::Global;
 use std::time::Duration;
@@ -40,11 +42,16 @@ pub struct HubBuilder {
     pub(crate) alloc: Global,
     pub(crate) publications: Publications,
     pub(crate) system: SystemName,
+    /// Whose log it is, as its file tells it: see `HubBuilder::identity`.
+    pub(crate) identity: Text,
     pub log: PublisherParts,
     pub slots: OpenedSlots,
     pub settings: HubSettings,
     /// Those that may connect by their passwords: everyone without one, unless it is set.
     pub users: Option<Users>,
+    /// Those of a file by which the log and its slots go on, where they are kept in one. `Hub::keep` has to run then: before that
+    /// nothing is on the disk, and commits wait.
+    pub entries: Option<Vec<Entry>>,
 }
 
 impl HubBuilder {
@@ -61,14 +68,23 @@ impl HubBuilder {
         requires few { records ≤ MAX_RECORDS }
     {
         match Parts::new(alloc, catalog, systemid, records) {
-            Ok(Parts { system, log, slots }) => Ok(HubBuilder {
+            Ok(
+                Parts {
+                    system,
+                    identity,
+                    log,
+                    slots,
+                },
+            ) => Ok(HubBuilder {
                 alloc,
                 publications,
                 system,
+                identity,
                 log,
                 slots,
                 settings: settings_for(records),
                 users: None,
+                entries: None,
             }),
             Err(fault) => {
                 drop(publications);
@@ -76,12 +92,20 @@ impl HubBuilder {
             }
         }
     }
+
+    /// The text by which a file of this log is known: the system's name and its tables, a line each.
+    pub fn identity(&self) -> &str
+        ensures { result.now ≡ self.now.identity }
+    {
+        self.identity.as_str()
+    }
 }
 
 /// What is made as a hub is opened: the system's name, its log and its slots.
 #[derive(Drop)]
 struct Parts {
     system: SystemName,
+    identity: Text,
     log: PublisherParts,
     slots: OpenedSlots,
 }
@@ -100,10 +124,21 @@ impl Parts {
             drop(catalog);
             return Err(HubFault::LongName);
         };
+        let Ok(identity) = identity_of(alloc, system.as_str(), &catalog) else {
+            drop(catalog);
+            drop(system);
+            return Err(HubFault::Memory);
+        };
         match log_and_slots(alloc, catalog, records) {
-            Ok((log, slots)) => Ok(Parts { system, log, slots }),
+            Ok((log, slots)) => Ok(Parts {
+                system,
+                identity,
+                log,
+                slots,
+            }),
             Err(fault) => {
                 drop(system);
+                drop(identity);
                 Err(fault)
             }
         }
@@ -141,6 +176,7 @@ fn settings_for(records: usize) -> HubSettings {
         answers_postgresql: false,
         allows_start_ahead: false,
         max_slot_keep: None,
+        synchronous_commit: true,
         capacity: records,
     }
 }

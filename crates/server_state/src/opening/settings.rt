@@ -28,6 +28,9 @@ pub struct HubSettings {
     /// How many records a slot may hold before it is given up: any number, unless it is set. Its stream ends (57P01), and none of it
     /// begins any more (55000).
     pub max_slot_keep: Option<usize>,
+    /// Whether a commit waits until it is on the disk, where the log is kept on one: true, unless it is set. Streams send what is there
+    /// all the same (PostgreSQL 15, 20.5.1: synchronous_commit).
+    pub synchronous_commit: bool,
     /// How many records the log has room for at once.
     pub(crate) capacity: usize,
 }

@@ -4,6 +4,7 @@ ghost use Rattle.std.specs.Prelude.{◌≡◌, IfOk, OnErr};
 ghost use Rattle.server_state.specs.Notices.{news_of_end};
 ghost use Rattle.txlog.specs.Publishing.{RefusedOrMemory, after_note, log_end, note_refusal};
 
+use crate::fault::NoteFault;
 use crate::server_state::ServerState;
 use crate::streams::spreading::Unheard;
 use shared_log::LogName;
@@ -14,8 +15,9 @@ use txlog::{Publisher, SessionFault};
 
 impl<L: LogName + SlotName> ServerState<L> {
     /// Writes a message outside of all transactions, and answers the position where its record starts. Refused in this order, and
-    /// then nobody hears of it: `BadPrefix` (S13), `TooLarge` (S6) where its content is, `LogFull` (S7), `Memory` (S11). Streams
-    /// that ask for messages send it at once, whatever transactions do (PostgreSQL 15, 9.27.6).
+    /// then nobody hears of it: `Failed` where the log's disk has, `BadPrefix` (S13), `TooLarge` (S6) where its content is, `LogFull`
+    /// (S7), `Memory` (S11). Streams that ask for messages send it at once, whatever transactions do (PostgreSQL 15, 9.27.6). Where
+    /// the log is kept on a disk, it is answered once it is there.
     ///
     /// It waits until no `Transaction` is in progress, so a thread that has one ends it first.
     pub fn note<R: Wait + Clock>(
@@ -23,14 +25,21 @@ impl<L: LogName + SlotName> ServerState<L> {
         rt: &R,
         prefix: &str,
         content: &[u8],
-    ) -> Result<u64, SessionFault> {
+    ) -> Result<u64, NoteFault> {
+        if let Some(fault) = self.disk_fault(rt) {
+            return Err(NoteFault::Disk(fault));
+        }
         let mut publisher = self.publisher.lock(rt);
         self.make_room(rt, &mut *publisher);
         let noted = noted(rt, &mut *publisher, prefix, content);
+        let end = publisher.end();
         self.let_go(rt, publisher);
         let (start, unheard) = noted?;
-        self.spread(rt, unheard);
-        Ok(start)
+        self.tell(rt, unheard);
+        match self.await_kept(rt, end) {
+            Some(fault) => Err(NoteFault::Disk(fault)),
+            None => Ok(start),
+        }
     }
 }
 

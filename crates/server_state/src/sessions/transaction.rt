@@ -6,6 +6,7 @@ ghost use Rattle.server_state.specs.Ending.{HasBegun, IsSpoilt, writes};
 ghost use Rattle.txlog.specs.Publishing.{RefusedOrMemory, after_change, after_delete, after_release, after_rollback, after_savepoint, after_update, delete_refusal, insert_refusal, message_refusal, message_with, release_refusal, rollback_refusal, savepoint_refusal, savepoints_of, truncate_refusal, update_refusal};
 ghost use Rattle.txlog.specs.Rows.{rows_of};
 
+use crate::disk::disk_fault::DiskFault;
 use crate::fault::EndFault;
 use crate::server_state::ServerState;
 use crate::sessions::ended::ended;
@@ -228,7 +229,8 @@ impl<'h, L: LogName + SlotName, R: Wait + Clock> Transaction<'h, L, R> {
     /// Ends the transaction with what came of its work. At `Ok` it commits at the time of the clock, and the streams read
     /// on after it; at `Err` it is aborted, and nothing of it stands. A commit that is refused is an abort
     /// (`Aborted`, with the commit's `SessionFault`). Where memory is refused for that too, the error is `Unended`, whatever the
-    /// work answered.
+    /// work answered. Where the log is kept on a disk, it is answered once it is there: `Disk` where that has failed, before, and then
+    /// nothing of it stands, or since.
     pub fn end<T, E>(self, done: Result<T, E>) -> Result<T, E>
     where
         T: Drop,
@@ -242,13 +244,34 @@ impl<'h, L: LogName + SlotName, R: Wait + Clock> Transaction<'h, L, R> {
     }
 
     /// The same, with a commit at this time, in microseconds since 2000-01-01.
-    #[tactic(auto, using(crate::proofs::Ends::told_by))]
+    #[tactic(auto, using(crate::proofs::Ends::told_ok, crate::proofs::Ends::told_err))]
     pub fn end_at<T, E>(self, time: i64, done: Result<T, E>) -> Result<T, E>
     where
         T: Drop,
         E: From<EndFault> + Drop,
         ensures ok { OnOk result ((result ≡ done) × (self.entry.spoilt ≡ None)) }
         ensures err { IfErr result
+            (λ e. (done ≡ Err e) ⊎ ((fault : EndFault) × E.from_gives fault e)) }
+    {
+        let (rt, server_state) = (self.rt, self.server_state);
+        let done = unless(server_state.disk_fault(rt), done);
+        let (answer, end) = self.end_in_log(time, done);
+        let unsynced = if answer.is_ok() {
+            server_state.await_kept(rt, end)
+        } else {
+            None
+        };
+        unless(unsynced, answer)
+    }
+
+    /// Ends the transaction in the log, and answers where that ends then.
+    #[tactic(auto, using(crate::proofs::Ends::told_by))]
+    fn end_in_log<T, E>(self, time: i64, done: Result<T, E>) -> (Result<T, E>, u64)
+    where
+        T: Drop,
+        E: From<EndFault> + Drop,
+        ensures ok { OnOk result.0 ((result.0 ≡ done) × (self.entry.spoilt ≡ None)) }
+        ensures err { IfErr result.0
             (λ e. (done ≡ Err e) ⊎ ((fault : EndFault) × E.from_gives fault e)) }
     {
         let Transaction {
@@ -259,10 +282,31 @@ impl<'h, L: LogName + SlotName, R: Wait + Clock> Transaction<'h, L, R> {
             spoilt,
         } = self;
         let (answer, unheard) = ended(rt, &mut *publisher, tx, time, spoilt, done);
+        let end = publisher.end();
         server_state.let_go(rt, publisher);
         if let Some(unheard) = unheard {
-            server_state.spread(rt, unheard);
+            server_state.tell(rt, unheard);
         }
-        answer
+        (answer, end)
+    }
+}
+
+/// What came of the work, unless that went well and the disk is at fault.
+fn unless<T, E>(fault: Option<DiskFault>, done: Result<T, E>) -> Result<T, E>
+where
+    T: Drop,
+    E: From<EndFault> + Drop,
+    ensures ok { OnOk result ((result ≡ done) × (fault ≡ None)) }
+    ensures own { IfErr done (λ e. result ≡ Err e) }
+    ensures err { IfErr result
+        (λ e. (done ≡ Err e)
+        ⊎ ((f : DiskFault) × (fault ≡ Some f) × E.from_gives (EndFault.Disk f) e)) }
+{
+    match (fault, done) {
+        (Some(fault), Ok(done)) => {
+            drop(done);
+            Err(E::from(EndFault::Disk(fault)))
+        }
+        (_, done) => done,
     }
 }

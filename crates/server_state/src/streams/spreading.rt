@@ -55,7 +55,7 @@ pub struct Woken {
 
 impl Woken {
     /// Tells each latch.
-    fn all<R: Wait>(rt: &R, latches: &[Latch], end: u64) -> Self
+    pub(crate) fn all<R: Wait>(rt: &R, latches: &[Latch], end: u64) -> Self
         ensures { result ≡ record { told = length latches.now; end = end } }
     {
         let mut woken = Woken { told: 0, end };
@@ -72,13 +72,34 @@ impl<L: LogName + SlotName> ServerState<L> {
     pub(crate) fn spread<R: Wait + Clock>(&self, rt: &R, unheard: Unheard<L>) -> Woken
         ensures { IsWoken (vec_len self.now.latches) unheard.end result }
     {
+        let end = self.heard(rt, unheard);
+        Woken::all(rt, &self.latches, end)
+    }
+
+    /// The same where the log isn't kept on a disk. Where it is, streams read on once it is there.
+    pub(crate) fn tell<R: Wait + Clock>(&self, rt: &R, unheard: Unheard<L>) {
+        match &self.durability {
+            Some(durability) => {
+                self.heard(rt, unheard);
+                durability.want(rt);
+            }
+            None => {
+                self.spread(rt, unheard);
+            }
+        }
+    }
+
+    /// Notes what was written, and answers how far streams have to read by now.
+    fn heard<R: Wait + Clock>(&self, rt: &R, unheard: Unheard<L>) -> u64
+        ensures { unheard.end ≤ result }
+    {
         if let Some(now) = moment(rt) {
             self.times.lock(rt).note(unheard.end, now);
         }
         let mut notice = self.notice.lock(rt);
         let end = hear(&mut *notice, unheard);
         drop(notice);
-        Woken::all(rt, &self.latches, end)
+        end
     }
 }
 

@@ -24,7 +24,18 @@ pub struct HubStatus {
     pub records: usize,
     /// How many it has room for at once, those included.
     pub capacity: usize,
+    /// Where the log is kept on a disk: how it is there.
+    pub disk: Option<DiskStatus>,
     pub slots: Vec<SlotStatus>,
+}
+
+/// A log on its disk at that moment.
+#[derive(Clone, Copy, Drop)]
+pub struct DiskStatus {
+    /// The position up to which it is there.
+    pub end: u64,
+    /// Whether a write or a sync has failed: nothing is written any more.
+    pub has_failed: bool,
 }
 
 /// A slot at that moment.
@@ -68,7 +79,17 @@ impl<L: LogName + SlotName> ServerState<L> {
             log_end: size.end,
             records: size.kept,
             capacity: self.settings.capacity,
+            disk: self.disk_status(rt),
             slots: self.slot_statuses(rt, size.count)?,
+        })
+    }
+
+    fn disk_status<R: Wait>(&self, rt: &R) -> Option<DiskStatus> {
+        let durability = self.durability.as_ref()?;
+        let state = durability.look(rt);
+        Some(DiskStatus {
+            end: state.end,
+            has_failed: state.has_failed,
         })
     }
 

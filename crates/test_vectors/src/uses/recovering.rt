@@ -70,7 +70,7 @@ fn go_on<L: LogName, R: Wait>(
     let (segment, entries) = Segment::open(alloc, file)?;
     replay(rt, alloc, publisher, entries.as_slice())?;
     let place = publisher.tell(&mut reader);
-    let mut keeper = LogKeeper::resume(alloc, segment, reader, place)?;
+    let mut keeper = LogKeeper::resume(alloc, segment, reader, publisher.end(), place)?;
     publisher.abort_all(rt)?;
     let mut sessions = Sessions::new(alloc);
     let done = take_steps(rt, alloc, publisher, &mut keeper, &mut sessions, lines);

@@ -1,4 +1,4 @@
 //! The limits of a turn.
 
-/// The greatest number of records that a turn fetches.
+/// The most records that a turn of a stream fetches.
 pub const TURN_RECORDS: usize = 1_024;

@@ -16,7 +16,6 @@ ghost use Rattle.walsender.specs.Outgoing.{IsOutgoing, MovesOut, held_of};
 
 use crate::held::outgoing::Outgoing;
 use crate::sender::Sender;
-use crate::stream_turn::limits::TURN_RECORDS;
 use crate::stream_turn::turn_fault::TurnFault;
 use publication::Selection;
 use reorder::Reorder;
@@ -25,8 +24,8 @@ use std::alloc::Global;
 use std::io;
 use std::io::{ErrorKind, Write};
 
-/// Fetches records, feeds them under this clock, and writes all that the sender holds, what it held before first. It answers
-/// how many records it fetched: 0 where the reader has come to the end of what it sees.
+/// Fetches so many records at most, feeds them under this clock, and writes all that the sender holds, what it held before first. It
+/// answers how many records it fetched: fewer than asked for where the reader has come to the end of what it sees.
 ///
 /// `NoEntry` and `Stale` (U4), `Memory` (U3) and `Removed` (U5) come from the fetch, and change nothing but what the reader has
 /// seen. At `Sender` (U1) the reader has moved on after the records that the sender refused, and nothing was written. At
@@ -36,16 +35,17 @@ pub fn turn<L: LogName, W: Write>(
     alloc: Global,
     sender: &mut Sender,
     reader: &mut LogReader<L>,
+    most: usize,
     clock: i64,
     out: &mut W,
 ) -> Result<usize, TurnFault>
     ensures grows { IsPrefix (seen_of reader.old) (seen_of reader.new) }
     ensures told { reader.new.told ≡ reader.old.told }
     ensures count { IfOk result
-        (λ n. n ≡ length (fetched_from reader.old.place (seen_of reader.new))) }
+        (λ n. n ≡ length (fetched_from most reader.old.place (seen_of reader.new))) }
     ensures moved { has_fetched result ≡ true →
         reader.new.place
-        ≡ reader.old.place + length (fetched_from reader.old.place (seen_of reader.new)) }
+        ≡ reader.old.place + length (fetched_from most reader.old.place (seen_of reader.new)) }
     ensures fresh { has_fetched result ≡ true →
         IsPrefix (settled_records reader.new.told) (seen_of reader.new)
         × IsWellFormedLog (seen_of reader.new) }
@@ -56,20 +56,20 @@ pub fn turn<L: LogName, W: Write>(
     ensures sent { OnOk result
         ((given : List ℕ)
         × ReadAndGave clock sender.old sender.new
-        (fetched_from reader.old.place (seen_of reader.new)) given
+        (fetched_from most reader.old.place (seen_of reader.new)) given
         × (sender.new.held ≡ []) × Appends (W.contents out.old) (W.contents out.new) given) }
     ensures broken { (e : Error) → result ≡ Err (TurnFault.Write e) →
         (given : List ℕ)
         × ReadAndGave clock sender.old sender.new
-        (fetched_from reader.old.place (seen_of reader.new)) given
+        (fetched_from most reader.old.place (seen_of reader.new)) given
         × (0 < length sender.new.held)
         × Appends (W.contents out.old) (W.contents out.new) given }
     ensures refused { (e : SendFault) → result ≡ Err (TurnFault.Sender e) →
-        IsRefused clock sender.old sender.new (fetched_from reader.old.place (seen_of reader.new))
+        IsRefused clock sender.old sender.new (fetched_from most reader.old.place (seen_of reader.new))
         e }
     ensures silent { has_written result ≡ false → out.new ≡ out.old }
 {
-    let records = reader.fetch(alloc, TURN_RECORDS)?;
+    let records = reader.fetch(alloc, most)?;
     let count = records.len();
     let fed = sender.feed(records.as_slice(), clock);
     // Let go before the ways out, which keeps the proof short.

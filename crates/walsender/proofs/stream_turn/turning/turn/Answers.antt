@@ -19,7 +19,7 @@ pub returns-clause-sent : goal.returns-clause-sent
 returns-clause-sent g c =
     let told = c.in_ok-fed.ensures in
     let (given, parts, appended) = c.write_held.ensures.given in
-    let same : shared_records c.as_slice.result.now ≡ fetched_from c.args.reader.now.place (seen_of c.fetch.new.self) = ap shared_records c.as_slice.ensures.value ∙ c.in_ok-records.ensures.gives.0 in
+    let same : shared_records c.as_slice.result.now ≡ fetched_from c.args.most c.args.reader.now.place (seen_of c.fetch.new.self) = ap shared_records c.as_slice.ensures.value ∙ c.in_ok-records.ensures.gives.0 in
     let read = rw (to_z-of_z w64 c.args.clock c.ranges.clock) at told.ok in
     let running : c.args.sender.now.failed ≡ false = false_from_ne_true _ (λ t. let e = told.failed.1 t in search rules) in
     (given, turned c.args.clock c.args.sender.now c.feed-fed.new.self c.write_held.new.self (shared_records c.as_slice.result.now) _ given same running told.follow read told.running parts c.write_held.ensures.rest c.write_held.ensures.lent, c.in_ok-write_held.ensures.ok, appended)
@@ -29,7 +29,7 @@ pub returns-in_err-write_held-clause-broken : goal.returns-in_err-write_held-cla
 returns-in_err-write_held-clause-broken g c e is =
     let told = c.in_ok-fed.ensures in
     let (given, parts, appended) = c.write_held.ensures.given in
-    let same : shared_records c.as_slice.result.now ≡ fetched_from c.args.reader.now.place (seen_of c.fetch.new.self) = ap shared_records c.as_slice.ensures.value ∙ c.in_ok-records.ensures.gives.0 in
+    let same : shared_records c.as_slice.result.now ≡ fetched_from c.args.most c.args.reader.now.place (seen_of c.fetch.new.self) = ap shared_records c.as_slice.ensures.value ∙ c.in_ok-records.ensures.gives.0 in
     let read = rw (to_z-of_z w64 c.args.clock c.ranges.clock) at told.ok in
     let running : c.args.sender.now.failed ≡ false = false_from_ne_true _ (λ t. let e = told.failed.1 t in search rules) in
     (given, turned c.args.clock c.args.sender.now c.feed-fed.new.self c.write_held.new.self (shared_records c.as_slice.result.now) _ given same running told.follow read told.running parts c.write_held.ensures.rest c.write_held.ensures.lent, c.in_err-write_held.ensures.err, appended)
@@ -116,7 +116,7 @@ returns-in_err-fed-clause-count g c =
 
 pub returns-in_err-fed-clause-moved : goal.returns-in_err-fed-clause-moved
 returns-in_err-fed-clause-moved g c holds =
-    let count : length c.in_ok-records.records.items ≡ length (fetched_from c.args.reader.now.place (seen_of c.fetch.new.self)) = count_is _ c.in_ok-records.records.items _ c.in_ok-records.ensures.gives.0 in
+    let count : length c.in_ok-records.records.items ≡ length (fetched_from c.args.most c.args.reader.now.place (seen_of c.fetch.new.self)) = count_is _ c.in_ok-records.records.items _ c.in_ok-records.ensures.gives.0 in
     let size = c.in_ok-records.records.ok in
     c.in_ok-records.ensures.gives.1 ∙ ap (λ (n : ℕ). c.args.reader.now.place + n) (omega (arith, count, size))
 
@@ -149,8 +149,8 @@ returns-in_err-fed-clause-refused g c e told =
     let is = error_is c.from_residual-in_err-fed.result (turns.Sender c.in_err-fed.field-0.0) c.from_residual-in_err-fed.ensures.1 in
     let f = c.feed-fed.ensures in
     let clock = to_z-of_z w64 c.args.clock c.ranges.clock in
-    let same : shared_records c.as_slice.result.now ≡ fetched_from c.args.reader.now.place (seen_of c.fetch.new.self) = ap shared_records c.as_slice.ensures.value ∙ c.in_ok-records.ensures.gives.0 in
-    subst (λ (s : SendFault). IsRefused c.args.clock c.args.sender.now c.feed-fed.new.self (fetched_from c.args.reader.now.place (seen_of c.fetch.new.self)) s) (same_refusal c.from_residual-in_err-fed.result c.in_err-fed.field-0.0 e is told)
+    let same : shared_records c.as_slice.result.now ≡ fetched_from c.args.most c.args.reader.now.place (seen_of c.fetch.new.self) = ap shared_records c.as_slice.ensures.value ∙ c.in_ok-records.ensures.gives.0 in
+    subst (λ (s : SendFault). IsRefused c.args.clock c.args.sender.now c.feed-fed.new.self (fetched_from c.args.most c.args.reader.now.place (seen_of c.fetch.new.self)) s) (same_refusal c.from_residual-in_err-fed.result c.in_err-fed.field-0.0 e is told)
     (refused_is c.args.clock c.args.sender.now c.feed-fed.new.self (shared_records c.as_slice.result.now) _ c.feed-fed.result c.in_err-fed.field-0.0 c.in_err-fed.was same (rw clock at f.full) (rw clock at f.memory) f.failed f.gap f.unchanged f.unread)
 
 pub returns-in_err-fed-clause-silent : goal.returns-in_err-fed-clause-silent
@@ -164,7 +164,7 @@ returns-in_err-write_held-clause-count g c =
 
 pub returns-in_err-write_held-clause-moved : goal.returns-in_err-write_held-clause-moved
 returns-in_err-write_held-clause-moved g c holds =
-    let count : length c.in_ok-records.records.items ≡ length (fetched_from c.args.reader.now.place (seen_of c.fetch.new.self)) = count_is _ c.in_ok-records.records.items _ c.in_ok-records.ensures.gives.0 in
+    let count : length c.in_ok-records.records.items ≡ length (fetched_from c.args.most c.args.reader.now.place (seen_of c.fetch.new.self)) = count_is _ c.in_ok-records.records.items _ c.in_ok-records.ensures.gives.0 in
     let size = c.in_ok-records.records.ok in
     c.in_ok-records.ensures.gives.1 ∙ ap (λ (n : ℕ). c.args.reader.now.place + n) (omega (arith, count, size))
 
@@ -199,13 +199,13 @@ returns-in_err-write_held-clause-silent g c lacks =
 
 pub returns-clause-count : goal.returns-clause-count
 returns-clause-count g c =
-    let count : length c.in_ok-records.records.items ≡ length (fetched_from c.args.reader.now.place (seen_of c.fetch.new.self)) = count_is _ c.in_ok-records.records.items _ c.in_ok-records.ensures.gives.0 in
+    let count : length c.in_ok-records.records.items ≡ length (fetched_from c.args.most c.args.reader.now.place (seen_of c.fetch.new.self)) = count_is _ c.in_ok-records.records.items _ c.in_ok-records.ensures.gives.0 in
     let size = c.in_ok-records.records.ok in
     c.len-count.ensures ∙ omega (arith, count, size)
 
 pub returns-clause-moved : goal.returns-clause-moved
 returns-clause-moved g c holds =
-    let count : length c.in_ok-records.records.items ≡ length (fetched_from c.args.reader.now.place (seen_of c.fetch.new.self)) = count_is _ c.in_ok-records.records.items _ c.in_ok-records.ensures.gives.0 in
+    let count : length c.in_ok-records.records.items ≡ length (fetched_from c.args.most c.args.reader.now.place (seen_of c.fetch.new.self)) = count_is _ c.in_ok-records.records.items _ c.in_ok-records.ensures.gives.0 in
     let size = c.in_ok-records.records.ok in
     c.in_ok-records.ensures.gives.1 ∙ ap (λ (n : ℕ). c.args.reader.now.place + n) (omega (arith, count, size))
 

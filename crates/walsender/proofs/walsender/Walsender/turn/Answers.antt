@@ -9,7 +9,7 @@ pub returns-clause-serves : goal.returns-clause-serves
 returns-clause-serves g c =
     let told = rw (to_z-of_z w64 c.args.clock c.ranges.clock) at c.turn.ensures in
     let old = c.args.self.now in
-    turned c.args.clock old.sender c.turn.new.sender old.reader.place c.turn.new.reader.place (seen_of old.reader) (seen_of c.turn.new.reader) (g.W.Write.contents c.args.to.now) (g.W.Write.contents c.turn.new.out)
+    turned c.args.most c.args.clock old.sender c.turn.new.sender old.reader.place c.turn.new.reader.place (seen_of old.reader) (seen_of c.turn.new.reader) (g.W.Write.contents c.args.to.now) (g.W.Write.contents c.turn.new.out)
     c.turn.result c.ranges.clock told.grows
     (turns_so told.moved (λ is. (told.fresh is).1) (λ is. let u = told.unfetched is in (u.0, u.1)) told.sent told.broken told.refused (λ is. ap g.W.Write.contents (c.turn.ensures.silent is)))
 
@@ -17,7 +17,7 @@ pub returns-clause-first : goal.returns-clause-first
 returns-clause-first g c =
     let told = rw (to_z-of_z w64 c.args.clock c.ranges.clock) at c.turn.ensures in
     let old = c.args.self.now in
-    first c.args.clock old.sender c.turn.new.sender old.reader.place c.turn.new.reader.place (seen_of old.reader) (seen_of c.turn.new.reader) (g.W.Write.contents c.args.to.now) (g.W.Write.contents c.turn.new.out)
+    first c.args.most c.args.clock old.sender c.turn.new.sender old.reader.place c.turn.new.reader.place (seen_of old.reader) (seen_of c.turn.new.reader) (g.W.Write.contents c.args.to.now) (g.W.Write.contents c.turn.new.out)
     c.turn.result told.grows
     (turns_so told.moved (λ is. (told.fresh is).1) (λ is. let u = told.unfetched is in (u.0, u.1)) told.sent told.broken told.refused (λ is. ap g.W.Write.contents (c.turn.ensures.silent is)))
 
@@ -25,6 +25,6 @@ pub returns-clause-reads : goal.returns-clause-reads
 returns-clause-reads g c =
     let told = rw (to_z-of_z w64 c.args.clock c.ranges.clock) at c.turn.ensures in
     let old = c.args.self.now in
-    reads c.args.clock old.sender c.turn.new.sender old.reader.place c.turn.new.reader.place (seen_of c.turn.new.reader) (g.W.Write.contents c.args.to.now) (g.W.Write.contents c.turn.new.out)
+    reads c.args.most c.args.clock old.sender c.turn.new.sender old.reader.place c.turn.new.reader.place (seen_of c.turn.new.reader) (g.W.Write.contents c.args.to.now) (g.W.Write.contents c.turn.new.out)
     c.turn.result
     (turns_so told.moved (λ is. (told.fresh is).1) (λ is. let u = told.unfetched is in (u.0, u.1)) told.sent told.broken told.refused (λ is. ap g.W.Write.contents (c.turn.ensures.silent is)))

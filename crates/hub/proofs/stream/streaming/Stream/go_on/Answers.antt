@@ -1,8 +1,11 @@
 use Rattle.std.proofs.lemmas.Int.{to_z-of_z}
-use Rattle.std.proofs.Common.{w64, of_z, to_z, ◌≡◌, ◌++◌, ◌∙◌, ap, refl, inr, subst}
+use Rattle.std.proofs.Common.{w64, of_z, to_z, ℕ, ◌-◌, ◌≡◌, ◌++◌, ◌∙◌, ap, refl, inr, subst}
+use Rattle.std.specs.Prelude.{min}
 use Rattle.walsender.specs.Sending.{SenderState}
 use Rattle.walsender.specs.declared.walsender.Walsender.{Walsender}
+use Rattle.walsender.specs.declared.stream_turn.limits.TheConstants.{TURN_RECORDS}
 use Rattle.hub.specs.Streams.{asking, keepalives}
+use Rattle.hub.specs.Turns.{ReadsWhole, WritesUnder, most_read}
 use Rattle.hub.proofs.Streams.{Gave, both_so, kept_on, one_more, promised_first, same_on}
 use Rattle.hub.proofs.Turns.{held_on, read_whole, writes_under}
 use Rattle.hub.proofs.stream.streaming.Stream.go_on.Goals as goal
@@ -87,6 +90,10 @@ returns-clause-answers g c =
     let reader = c.ask_if.ensures.reader ∙ c.answer_statuses.ensures.reader ∙ ap (λ (w : Walsender _). w.reader) same in
     let first = promised_first old answered asked before between turned after promised more gave held then turn.first (given, appended) in
     let (out, read, _) = turn.reads in
-    let whole = read_whole old asked c.turn.new.self c.tell_position.new.self.walsender (c.ask_if.ensures.position ∙ ap (λ (s : SenderState). s.position) rest) reader (turn.sees refl) (ap (λ (s : SenderState). s.position) read.rest ∙ read.read.position) c.tell_position.ensures.position c.tell_position.ensures.reader in
-    let under = writes_under clock old answered asked c.turn.new.self c.tell_position.new.self.walsender before between turned after promised more gave then (held_on old.sender answered.sender asked.sender (answered.sender.held ++ asking c.args.work.now.is_silent answered.sender.position clock) rest asks) turn.reads reader c.tell_position.ensures.reader in
-    both_so c.tell_position.result (c.tell_position.ensures.whole turn.sent) (says turn.sent) (λ empty last. inr (first, under last, whole empty))
+    let most = c.most_read-most.result in
+    let is_most : most ≡ most_read c.args.work.now old = c.most_read-most.ensures ∙ ap (λ (place : ℕ). min TURN_RECORDS (c.args.work.now.readable - place)) (c.place.ensures ∙ ap (λ (w : Walsender _). w.reader.place) same) in
+    let whole = read_whole most old asked c.turn.new.self c.tell_position.new.self.walsender (c.ask_if.ensures.position ∙ ap (λ (s : SenderState). s.position) rest) reader (turn.sees refl) (ap (λ (s : SenderState). s.position) read.rest ∙ read.read.position) c.tell_position.ensures.position c.tell_position.ensures.reader in
+    let under = writes_under most clock old answered asked c.turn.new.self c.tell_position.new.self.walsender before between turned after promised more gave then (held_on old.sender answered.sender asked.sender (answered.sender.held ++ asking c.args.work.now.is_silent answered.sender.position clock) rest asks) turn.reads reader c.tell_position.ensures.reader in
+    let Under : ℕ → Type 0 = λ n. WritesUnder n clock (promised ++ more) old c.tell_position.new.self.walsender before after in
+    let Whole : ℕ → Type 0 = λ n. ReadsWhole n old c.tell_position.new.self.walsender in
+    both_so c.tell_position.result (c.tell_position.ensures.whole turn.sent) (says turn.sent) (λ empty last. inr (first, subst Under is_most (under last), subst Whole is_most (whole empty)))
