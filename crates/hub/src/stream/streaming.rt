@@ -127,8 +127,8 @@ impl<L: LogName + SlotName> Stream<L> {
     }
 
     /// Does what its inbox asks: confirms what was flushed, holds a keepalive for each status that asked and one that asks a
-    /// silent client, reads on as far as its work lets it, and writes all that is held. Where the connection is over, it only confirms. Faults as of
-    /// `Walsender::turn` (U1 to U5).
+    /// silent client, reads on as far as its work lets it, and writes all that is held. Where the connection is over, it only confirms.
+    /// Faults as of `Walsender::turn` (U1 to U5).
     pub fn go_on<W: Write>(
         &mut self,
         slots: &SlotTable<L>,

@@ -28,8 +28,8 @@ const RECORDS: usize = 1_024;
 
 impl<L: LogName + SlotName> ServerState<L> {
     /// Puts what is written into this segment, until `end_keeping` is called: all that there is then, too. The segment is the one whose
-    /// entries it was opened with. An error is told at once, and commits are refused from then on; it is answered at the end.
-    /// `Behind` where it wasn't opened to be kept.
+    /// entries it was opened with. An error of a write or a sync is answered at once, and commits are refused from then on; `Behind`
+    /// where it wasn't opened to be kept.
     pub fn keep<D: Disk + Drop, R: Wait + Clock>(
         &self,
         rt: &R,
