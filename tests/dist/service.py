@@ -1,4 +1,4 @@
-"""Whether the archive's systemd unit serves its configuration, does lines, and is stopped in order."""
+"""Whether the archive's systemd unit serves its configuration, does lines, is stopped in order, and goes on by its log."""
 import pathlib
 import re
 import shutil
@@ -21,16 +21,30 @@ def shell_of(words):
 
 
 def served(unit, folder):
-    """What is wrong where its commands are run as systemd would."""
+    """What is wrong where it is started, and again over what that has left in the folder of its state."""
+    with tempfile.TemporaryDirectory() as state:
+        log, kept = pathlib.Path(state) / "log", b""
+        for start in "first", "second":
+            yield from (f"at its {start} start {each}" for each in served_once(unit, folder, state))
+            content = log.read_bytes() if log.exists() else b""
+            if not content.startswith(kept) or len(content) <= len(kept):
+                yield f"its {start} start leaves a log of {len(content)} bytes, which doesn't go on by the {len(kept)} before it"
+            kept = content
+
+
+def served_once(unit, folder, state):
+    """What is wrong where its commands are run as systemd would, with this folder for its state."""
     with tempfile.TemporaryDirectory() as runtime:
         begins, starts = (setting(unit, f"Exec{name}").replace(RUNTIME, runtime) for name in ("StartPre", "Start"))
+        starts = starts.replace(f"/var/lib/{setting(unit, 'StateDirectory')}", state)
         subprocess.run(begins.split(), check=True)
         command = shell_of(starts.replace(FOLDER, str(folder)))
         server = subprocess.Popen(["/bin/sh", "-c", command], stdout=subprocess.PIPE, stderr=subprocess.STDOUT, text=True)
         try:
             said = [server.stdout.readline() for _ in range(2)]
-            with open(f"{runtime}/lines", "w") as lines:
-                lines.write("note 'app' 'hello'\n")
+            # To be read too: so it waits for no reader, where the server has ended.
+            with open(f"{runtime}/lines", "r+b", buffering=0) as lines:
+                lines.write(b"note 'app' 'hello'\n")
             said.append(server.stdout.readline())
             # As systemd stops a unit.
             server.terminate()
